@@ -1,0 +1,12 @@
+-- Choosing by a test, for every type.
+use mathlib.Core.Bool.{Bool, true, false}
+
+-- a where the test holds, b where it does not
+abbrev pub pick {ℓ} : {A : Type ℓ} → Bool → A → A → A
+pick true a b = a
+pick false a b = b
+
+-- both tests hold
+abbrev pub both : Bool → Bool → Bool
+both true b = b
+both false b = false
