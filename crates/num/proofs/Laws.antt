@@ -114,6 +114,10 @@ at-elems k o s p r h e =
     let q : take k (drop p s) ≡ elems p 0 k s = rw add-zero at (part-elems p 0 k s (omega arith)) in
     e ∙ ap (unsigned o) (sym q) ∙ sym (at-some k o s p h)
 
+-- the number of some bytes that were read one by one
+pub taken : (k : ℕ) (l : List ℕ) (r : ℕ) → length l ≡ k → r ≡ number (elems 0 0 k l) → r ≡ number l
+taken k l r q e = e ∙ ap number (all-elems k l q)
+
 -- the number of some bytes, with its own bytes the other way round
 pub swapped : (k : ℕ) (l : List ℕ) (n r : ℕ) → length l ≡ k → Bytes l → n ≡ number (elems 0 0 k l) → r ≡ number (reverse (digits k n)) → r ≡ number (reverse l)
 swapped k l n r q g e h =

@@ -1,23 +1,17 @@
+-- The unsigned number, read in two's complement.
 use mathlib.Core.Path.{_≡_, ap, _∙_}
 use mir.Syntax.{w16}
 use mir.Val.{toZ, ofZ}
 use borrow.Author.Needs.{needs}
 use Rattle.num.proofs.i16_of.Statement.{statement}
 use Rattle.num.proofs.i16_of.Tie as tie
-use Rattle.num.proofs.i16_of.Reads as reads
-use Rattle.num.proofs.i16_of.Lts as lts
-use Rattle.num.proofs.signed16.Reads as signed16-reads
-use Rattle.num.proofs.u16_of.Reads as u16-of-reads
 
--- src/lib.rt:96:14
 u16-of-requires : tie.Need-u16-of-requires
 u16-of-requires c κs = search needs
 
--- src/lib.rt:96:5
 signed16-requires : tie.Need-signed16-requires
 signed16-requires c κs = search needs
 
--- src/lib.rt:93:1
 returns : tie.Need-returns
 returns c =
     let back : toZ w16 (ofZ w16 (c .signed16 .result)) ≡ c .signed16 .result = search needs in

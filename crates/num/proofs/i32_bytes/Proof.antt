@@ -1,26 +1,19 @@
+-- The bytes of the number's pattern.
 use mir.Syntax.{w32}
 use mir.Val.{ofZ}
 use mir.ValLaws.{toZ-ofZ}
 use mathlib.Core.Path.{ap, _∙_}
-use Prim.Native.Nat.{ℕ}
 use Rattle.num.specs.Number.{bytesOf}
 use borrow.Author.Needs.{needs}
 use Rattle.num.proofs.i32_bytes.Statement.{statement}
 use Rattle.num.proofs.i32_bytes.Tie as tie
-use Rattle.num.proofs.i32_bytes.Reads as reads
-use Rattle.num.proofs.i32_bytes.Lts as lts
-use Rattle.num.proofs.pattern32.Reads as pattern32-reads
-use Rattle.num.proofs.u32_bytes.Reads as u32-bytes-reads
 
--- src/lib.rt:215:22
 pattern32-requires : tie.Need-pattern32-requires
 pattern32-requires c κs = search needs
 
--- src/lib.rt:215:5
 u32-bytes-requires : tie.Need-u32-bytes-requires
 u32-bytes-requires c κs = search needs
 
--- src/lib.rt:212:1
 returns : tie.Need-returns
 returns c =
     let a = c .before .before in

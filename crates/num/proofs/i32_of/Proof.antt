@@ -1,23 +1,17 @@
+-- The unsigned number, read in two's complement.
 use mathlib.Core.Path.{_≡_, ap, _∙_}
 use mir.Syntax.{w32}
 use mir.Val.{toZ, ofZ}
 use borrow.Author.Needs.{needs}
 use Rattle.num.proofs.i32_of.Statement.{statement}
 use Rattle.num.proofs.i32_of.Tie as tie
-use Rattle.num.proofs.i32_of.Reads as reads
-use Rattle.num.proofs.i32_of.Lts as lts
-use Rattle.num.proofs.signed32.Reads as signed32-reads
-use Rattle.num.proofs.u32_of.Reads as u32-of-reads
 
--- src/lib.rt:102:14
 u32-of-requires : tie.Need-u32-of-requires
 u32-of-requires c κs = search needs
 
--- src/lib.rt:102:5
 signed32-requires : tie.Need-signed32-requires
 signed32-requires c κs = search needs
 
--- src/lib.rt:99:1
 returns : tie.Need-returns
 returns c =
     let back : toZ w32 (ofZ w32 (c .signed32 .result)) ≡ c .signed32 .result = search needs in

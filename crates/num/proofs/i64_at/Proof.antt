@@ -1,23 +1,17 @@
+-- The unsigned number at the place, read in two's complement.
 use mathlib.Core.Path.{_≡_, ap, _∙_}
 use mir.Syntax.{w64}
 use mir.Val.{toZ, ofZ}
 use borrow.Author.Needs.{needs}
 use Rattle.num.proofs.i64_at.Statement.{statement}
 use Rattle.num.proofs.i64_at.Tie as tie
-use Rattle.num.proofs.i64_at.Reads as reads
-use Rattle.num.proofs.i64_at.Lts as lts
-use Rattle.num.proofs.signed64.Reads as signed64-reads
-use Rattle.num.proofs.u64_at.Reads as u64-at-reads
 
--- src/lib.rt:157:14
 u64-at-requires : tie.Need-u64-at-requires
 u64-at-requires c κs = search needs
 
--- src/lib.rt:157:5
 signed64-requires : tie.Need-signed64-requires
 signed64-requires c κs = search needs
 
--- src/lib.rt:154:1
 returns : tie.Need-returns
 returns c =
     let back : toZ w64 (ofZ w64 (c .signed64 .result)) ≡ c .signed64 .result = search needs in

@@ -1,26 +1,19 @@
+-- The bytes of the number's pattern.
 use mir.Syntax.{w64}
 use mir.Val.{ofZ}
 use mir.ValLaws.{toZ-ofZ}
 use mathlib.Core.Path.{ap, _∙_}
-use Prim.Native.Nat.{ℕ}
 use Rattle.num.specs.Number.{bytesOf}
 use borrow.Author.Needs.{needs}
 use Rattle.num.proofs.i64_bytes.Statement.{statement}
 use Rattle.num.proofs.i64_bytes.Tie as tie
-use Rattle.num.proofs.i64_bytes.Reads as reads
-use Rattle.num.proofs.i64_bytes.Lts as lts
-use Rattle.num.proofs.pattern64.Reads as pattern64-reads
-use Rattle.num.proofs.u64_bytes.Reads as u64-bytes-reads
 
--- src/lib.rt:221:22
 pattern64-requires : tie.Need-pattern64-requires
 pattern64-requires c κs = search needs
 
--- src/lib.rt:221:5
 u64-bytes-requires : tie.Need-u64-bytes-requires
 u64-bytes-requires c κs = search needs
 
--- src/lib.rt:218:1
 returns : tie.Need-returns
 returns c =
     let a = c .before .before in

@@ -1,30 +1,25 @@
+-- Below 0, each bit of the number is turned twice.
 use native.Mathlib.Omega.{arith}
 use mir.Syntax.{w32}
 use Rattle.num.proofs.Laws.{below, natural}
 use Rattle.num.proofs.pattern32.Statement.{statement}
 use Rattle.num.proofs.pattern32.Tie as tie
-use Rattle.num.proofs.pattern32.Reads as reads
-use Rattle.num.proofs.pattern32.Lts as lts
 
--- src/lib.rt:121:18
 cast-result : tie.Need-cast-result
 cast-result c =
     let k = below w32 (c .before .args .x) (c .before .fits .x) (c .if1 .taken) in
     rw (k .2) (tt, record { fits = omega (arith, k .1) })
 
--- src/lib.rt:121:40
 cast-result-2 : tie.Need-cast-result-2
 cast-result-2 c =
     let k = natural w32 (c .before .args .x) (c .before .fits .x) (c .if1 .left) in
     rw (k .2) (tt, record { fits = omega (arith, k .1) })
 
--- src/lib.rt:118:1
 returns : tie.Need-returns
 returns c =
     let k = below w32 (c .before .args .x) (c .before .fits .x) (c .if1 .taken) in
     rw (k .2) (k .3)
 
--- src/lib.rt:118:1
 returns-2 : tie.Need-returns-2
 returns-2 c =
     let k = natural w32 (c .before .args .x) (c .before .fits .x) (c .if1 .left) in

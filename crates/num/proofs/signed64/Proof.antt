@@ -1,3 +1,4 @@
+-- Above the half, each bit of the pattern is turned twice.
 use Prim.Native.Nat.{_-_}
 use mathlib.Core.Path.{_≡_, ap}
 use native.Mathlib.Omega.{arith}
@@ -6,22 +7,16 @@ use mir.Val.{toZ}
 use borrow.Author.Needs.{needs}
 use Rattle.num.proofs.signed64.Statement.{statement}
 use Rattle.num.proofs.signed64.Tie as tie
-use Rattle.num.proofs.signed64.Reads as reads
-use Rattle.num.proofs.signed64.Lts as lts
 
--- src/lib.rt:108:36
 cast-result : tie.Need-cast-result
 cast-result c = search needs
 
--- src/lib.rt:108:56
 cast-result-2 : tie.Need-cast-result-2
 cast-result-2 c = search needs
 
--- src/lib.rt:105:1
 returns : tie.Need-returns
 returns c = search needs
 
--- src/lib.rt:105:1
 returns-2 : tie.Need-returns-2
 returns-2 c =
     let e : 18446744073709551615 - (18446744073709551615 - c .before .args .x) ≡ c .before .args .x = omega arith in

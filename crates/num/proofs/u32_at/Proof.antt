@@ -1,62 +1,48 @@
+-- Where enough bytes are left, the four that are read are those that stand at the place.
 use native.Mathlib.Omega.{arith}
 use native.Mathlib.Nat.{add-zero}
 use Rattle.num.proofs.Laws.{at-none, at-elems}
 use borrow.Author.Needs.{needs}
 use Rattle.num.proofs.u32_at.Statement.{statement}
 use Rattle.num.proofs.u32_at.Tie as tie
-use Rattle.num.proofs.u32_at.Reads as reads
-use Rattle.num.proofs.u32_at.Lts as lts
-use Rattle.num.proofs.u32_of.Reads as u32-of-reads
 
--- src/lib.rt:116:9
 returns : tie.Need-returns
 returns c =
     let a = c .before .before .args in
     at-none 4 (a .order) (a .s .now) (a .place) (omega arith)
 
--- src/lib.rt:118:8
 sub-if2 : tie.Need-sub-if2
 sub-if2 c = search needs
 
--- src/lib.rt:119:9
 returns-2 : tie.Need-returns-2
 returns-2 c =
     let a = c .before .before .before .args in
     at-none 4 (a .order) (a .s .now) (a .place) (omega arith)
 
--- src/lib.rt:121:20
 shared-slice-read-t8 : tie.Need-shared-slice-read-t8
 shared-slice-read-t8 c = search needs
 
--- src/lib.rt:121:32
 add-t4 : tie.Need-add-t4
 add-t4 c = search needs
 
--- src/lib.rt:121:30
 shared-slice-read-t10 : tie.Need-shared-slice-read-t10
 shared-slice-read-t10 c = search needs
 
--- src/lib.rt:121:46
 add-t6 : tie.Need-add-t6
 add-t6 c = search needs
 
--- src/lib.rt:121:44
 shared-slice-read-t12 : tie.Need-shared-slice-read-t12
 shared-slice-read-t12 c = search needs
 
--- src/lib.rt:121:60
 add-t13 : tie.Need-add-t13
 add-t13 c = search needs
 
--- src/lib.rt:121:58
 shared-slice-read-t15 : tie.Need-shared-slice-read-t15
 shared-slice-read-t15 c = search needs
 
--- src/lib.rt:121:5
 u32-of-requires : tie.Need-u32-of-requires
 u32-of-requires c κs = search needs
 
--- src/lib.rt:112:1
 returns-3 : tie.Need-returns-3
 returns-3 c =
     let a = c .before .before .before .before .before .before .before .before .args in

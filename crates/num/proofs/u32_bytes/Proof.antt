@@ -1,38 +1,29 @@
+-- The digits are laid out least significant first, or last.
 use borrow.Author.Needs.{needs}
 use Rattle.num.proofs.u32_bytes.Statement.{statement}
 use Rattle.num.proofs.u32_bytes.Tie as tie
-use Rattle.num.proofs.u32_bytes.Reads as reads
-use Rattle.num.proofs.u32_bytes.Lts as lts
 
--- src/lib.rt:176:13
 cast-a : tie.Need-cast-a
 cast-a c = search needs
 
--- src/lib.rt:177:13
 cast-b : tie.Need-cast-b
 cast-b c = search needs
 
--- src/lib.rt:178:13
 cast-c : tie.Need-cast-c
 cast-c c = search needs
 
--- src/lib.rt:179:13
 cast-d : tie.Need-cast-d
 cast-d c = search needs
 
--- src/lib.rt:181:23
 enum-told : tie.Need-enum-told
 enum-told c = search needs
 
--- src/lib.rt:182:26
 enum-told-2 : tie.Need-enum-told-2
 enum-told-2 c = search needs
 
--- src/lib.rt:172:1
 returns : tie.Need-returns
 returns c = rw (c .enum-told .given .1)
 
--- src/lib.rt:172:1
 returns-2 : tie.Need-returns-2
 returns-2 c = rw (c .enum-told2 .given .1)
 

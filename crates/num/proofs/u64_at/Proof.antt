@@ -1,94 +1,72 @@
+-- Where enough bytes are left, the eight that are read are those that stand at the place.
 use native.Mathlib.Omega.{arith}
 use native.Mathlib.Nat.{add-zero}
 use Rattle.num.proofs.Laws.{at-none, at-elems}
 use borrow.Author.Needs.{needs}
 use Rattle.num.proofs.u64_at.Statement.{statement}
 use Rattle.num.proofs.u64_at.Tie as tie
-use Rattle.num.proofs.u64_at.Reads as reads
-use Rattle.num.proofs.u64_at.Lts as lts
-use Rattle.num.proofs.u64_of.Reads as u64-of-reads
 
--- src/lib.rt:128:9
 returns : tie.Need-returns
 returns c =
     let a = c .before .before .args in
     at-none 8 (a .order) (a .s .now) (a .place) (omega arith)
 
--- src/lib.rt:130:8
 sub-if2 : tie.Need-sub-if2
 sub-if2 c = search needs
 
--- src/lib.rt:131:9
 returns-2 : tie.Need-returns-2
 returns-2 c =
     let a = c .before .before .before .args in
     at-none 8 (a .order) (a .s .now) (a .place) (omega arith)
 
--- src/lib.rt:136:13
 shared-slice-read-t8 : tie.Need-shared-slice-read-t8
 shared-slice-read-t8 c = search needs
 
--- src/lib.rt:137:15
 add-t4 : tie.Need-add-t4
 add-t4 c = search needs
 
--- src/lib.rt:137:13
 shared-slice-read-t10 : tie.Need-shared-slice-read-t10
 shared-slice-read-t10 c = search needs
 
--- src/lib.rt:138:15
 add-t6 : tie.Need-add-t6
 add-t6 c = search needs
 
--- src/lib.rt:138:13
 shared-slice-read-t12 : tie.Need-shared-slice-read-t12
 shared-slice-read-t12 c = search needs
 
--- src/lib.rt:139:15
 add-t13 : tie.Need-add-t13
 add-t13 c = search needs
 
--- src/lib.rt:139:13
 shared-slice-read-t15 : tie.Need-shared-slice-read-t15
 shared-slice-read-t15 c = search needs
 
--- src/lib.rt:140:15
 add-t16 : tie.Need-add-t16
 add-t16 c = search needs
 
--- src/lib.rt:140:13
 shared-slice-read-t18 : tie.Need-shared-slice-read-t18
 shared-slice-read-t18 c = search needs
 
--- src/lib.rt:141:15
 add-t19 : tie.Need-add-t19
 add-t19 c = search needs
 
--- src/lib.rt:141:13
 shared-slice-read-t21 : tie.Need-shared-slice-read-t21
 shared-slice-read-t21 c = search needs
 
--- src/lib.rt:142:15
 add-t22 : tie.Need-add-t22
 add-t22 c = search needs
 
--- src/lib.rt:142:13
 shared-slice-read-t24 : tie.Need-shared-slice-read-t24
 shared-slice-read-t24 c = search needs
 
--- src/lib.rt:143:15
 add-t25 : tie.Need-add-t25
 add-t25 c = search needs
 
--- src/lib.rt:143:13
 shared-slice-read-t27 : tie.Need-shared-slice-read-t27
 shared-slice-read-t27 c = search needs
 
--- src/lib.rt:133:5
 u64-of-requires : tie.Need-u64-of-requires
 u64-of-requires c κs = search needs
 
--- src/lib.rt:124:1
 returns-3 : tie.Need-returns-3
 returns-3 c =
     let a = c .before .before .before .before .before .before .before .before .before .before .before .before .args in

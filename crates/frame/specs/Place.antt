@@ -1,0 +1,84 @@
+-- What a stream shows at a place, where a search stops, and which order a stream has.
+-- All is said of the bytes ahead of the place, so what lies behind it has no say.
+use Prim.Native.Nat.{ℕ, zero, suc, _+_, _-_, _%_}
+use mathlib.Core.List.{List, [], _∷_}
+use mathlib.Core.Bool.{Bool, true, false}
+use lib.ListN.{length, drop, take}
+use lib.Dec.{ltb, leb, eqb}
+use Rattle.num.specs.Answer.{Answer, gives, refuses}
+use Rattle.num.specs.Choice.{pick, both}
+use Rattle.num.specs.Number.{unsigned, bytesOf}
+use Rattle.num.specs.declared.Order.{Order}
+use Rattle.num.specs.declared.Order.the-variants.{Big, Little}
+use Rattle.frame.specs.declared.At.{At}
+use Rattle.frame.specs.declared.At.the-variants.{NoSync, Bad, Unfinished, Complete}
+use Rattle.frame.specs.declared.Found.{Found}
+use Rattle.frame.specs.declared.Found.the-variants.{Place, Nothing}
+use Rattle.frame.specs.declared.OrderFound.{OrderFound}
+use Rattle.frame.specs.declared.OrderFound.the-variants.{Is, Neither}
+
+-- the sync word as it stands in a stream
+abbrev pub syncBytes : Order → List ℕ
+syncBytes o = bytesOf o 4 0xA1B2C3D4
+
+-- the bytes w stand at the front of the list
+unfoldable pub starts : List ℕ → List ℕ → Bool
+starts [] l = true
+starts (x ∷ w) [] = false
+starts (x ∷ w) (y ∷ l) = both (eqb y x) (starts w l)
+
+-- the number of 32 bits at the front: a header has the sync word, the type and the size, one after the other
+abbrev pub word : Order → List ℕ → ℕ
+word o l = unsigned o (take 4 l)
+
+abbrev pub typeIn : Order → List ℕ → ℕ
+typeIn o l = word o (drop 4 l)
+
+abbrev pub sizeIn : Order → List ℕ → ℕ
+sizeIn o l = word o (drop 8 l)
+
+-- a size is good: at most 69,632, and a multiple of 4
+abbrev pub goodSize : ℕ → Bool
+goodSize n = both (leb n 69632) (eqb (n % 4) 0)
+
+-- No sync; or unfinished, the header not whole; or bad, the size not good; or unfinished, the body running past the end;
+-- or complete.
+unfoldable pub shows : Order → List ℕ → At
+shows o l =
+    pick (starts (syncBytes o) l)
+    (pick (ltb (length l) 12) Unfinished
+    (pick (goodSize (sizeIn o l))
+    (pick (leb (sizeIn o l) (length l - 12)) (Complete (typeIn o l) (sizeIn o l)) Unfinished)
+    Bad))
+    NoSync
+
+-- a search stops at what is complete or unfinished
+abbrev pub stops : At → Bool
+stops NoSync = false
+stops Bad = false
+stops Unfinished = true
+stops (Complete code size) = true
+
+-- how many bytes lie before the first place at which a search stops, or before the end where there is none
+unfoldable pub gap : Order → List ℕ → ℕ
+gap o [] = 0
+gap o (x ∷ l) = pick (stops (shows o (x ∷ l))) 0 (1 + gap o l)
+
+-- the first place from `from` on at which a search stops, or that there is none
+abbrev pub searchFrom : Order → List ℕ → ℕ → Found
+searchFrom o s from =
+    let to : ℕ = from + gap o (drop from s) in
+    pick (ltb to (length s)) (Place to) Nothing
+
+-- the lowest place where either sync word stands decides the order; number 1 where there is none
+unfoldable pub orderOf : List ℕ → Answer Order
+orderOf [] = refuses 1
+orderOf (x ∷ l) =
+    pick (starts (syncBytes Big) (x ∷ l)) (gives Big)
+    (pick (starts (syncBytes Little) (x ∷ l)) (gives Little)
+    (orderOf l))
+
+-- what each case of the answer says
+abbrev pub orderSaid : OrderFound → Answer Order
+orderSaid (Is o) = gives o
+orderSaid Neither = refuses 1

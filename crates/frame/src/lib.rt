@@ -1,0 +1,131 @@
+// Frames: the sync word, what a stream shows at a place, the search, and finding the byte order.
+ghost use mathlib.Core.Path.{_≡_};
+ghost use Prim.Native.Nat.{_≤_};
+ghost use lib.ListN.{length, drop};
+ghost use Rattle.num.specs.Number.{bytesOf};
+ghost use Rattle.frame.specs.Place.{syncBytes, starts, goodSize, shows, searchFrom, orderOf, orderSaid};
+use num::Order;
+
+// Each chunk begins with this number.
+pub const SYNC: u32 = 0xA1B2C3D4;
+
+// The sync word of the little order, read in the big one.
+const SYNC_TURNED: u32 = 0xD4C3B2A1;
+
+// A header: sync word, type and size, four bytes each.
+pub const HEADER: usize = 12;
+
+// The largest body.
+pub const LIMIT: usize = 69632;
+
+// What a stream shows at a place. The code is the chunk's type as a number.
+pub enum At {
+    NoSync,
+    Bad,
+    Unfinished,
+    Complete { code: u32, size: usize },
+}
+
+// The place where a search stopped, or that there was none.
+pub enum Found {
+    Place(usize),
+    Nothing,
+}
+
+// The order of a stream, or that neither sync word stands in it.
+pub enum OrderFound {
+    Is(Order),
+    Neither,
+}
+
+// Whether a body may have this many bytes.
+pub fn good_size(size: usize) -> bool
+    ensures { λ r. ⌜ r ≡ goodSize size ⌝ }
+{
+    (size <= LIMIT) & (size % 4 == 0)
+}
+
+// What the stream shows at a place; no sync at the end and past it.
+pub fn look(order: Order, s: &[u8], place: usize) -> At
+    ensures { λ r. ⌜ r ≡ shows order (drop place (now (s .entry))) ⌝ }
+{
+    if s.len() < place {
+        return At::NoSync;
+    }
+    let left = s.len() - place;
+    if left < 4 {
+        return At::NoSync;
+    }
+    if num::u32_at(order, s, place) != SYNC {
+        return At::NoSync;
+    }
+    if left < HEADER {
+        return At::Unfinished;
+    }
+    let code = num::u32_at(order, s, place + 4);
+    let size = num::u32_at(order, s, place + 8) as usize;
+    if !good_size(size) {
+        return At::Bad;
+    }
+    if left - HEADER < size {
+        return At::Unfinished;
+    }
+    At::Complete { code, size }
+}
+
+// The search: the first place from `from` on that is complete or unfinished, or that there is none.
+pub fn search(order: Order, s: &[u8], from: usize) -> Found
+    ensures { λ r. ⌜ r ≡ searchFrom order (now (s .entry)) from ⌝ }
+{
+    if s.len() < 4 {
+        return Found::Nothing;
+    }
+    let last = s.len() - 4;
+    let word = num::u32_bytes(order, SYNC);
+    let mut p = from;
+    'places: loop {
+        if last < p {
+            break Found::Nothing;
+        }
+        let mut k = 0;
+        'bytes: loop {
+            if k == 4 {
+                match look(order, s, p) {
+                    At::Complete { code: _, size: _ } | At::Unfinished => {
+                        break 'places Found::Place(p)
+                    }
+                    At::NoSync | At::Bad => break 'bytes,
+                }
+            }
+            if s[p + k] != word[k] {
+                break 'bytes;
+            }
+            k += 1;
+        }
+        p += 1;
+    }
+}
+
+// The order of the stream: the lowest place where a sync word of either order stands decides.
+pub fn find_order(s: &[u8]) -> OrderFound
+    ensures { λ r. ⌜ orderSaid r ≡ orderOf (now (s .entry)) ⌝ }
+{
+    if s.len() < 4 {
+        return OrderFound::Neither;
+    }
+    let last = s.len() - 4;
+    let mut place = 0;
+    loop {
+        if last < place {
+            break OrderFound::Neither;
+        }
+        let front = num::u32_at(Order::Big, s, place);
+        if front == SYNC {
+            break OrderFound::Is(Order::Big);
+        }
+        if front == SYNC_TURNED {
+            break OrderFound::Is(Order::Little);
+        }
+        place += 1;
+    }
+}

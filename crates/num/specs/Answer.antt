@@ -1,0 +1,6 @@
+-- What a call answers: what it was asked for, or one of the numbers of refusal.
+use Prim.Native.Nat.{ℕ}
+
+pub data Answer (A : Type 0) : Type 0 where
+  gives : A → Answer A
+  refuses : ℕ → Answer A
