@@ -4,3 +4,8 @@ use Prim.Native.Nat.{ℕ}
 pub data Answer (A : Type 0) : Type 0 where
   gives : A → Answer A
   refuses : ℕ → Answer A
+
+-- a refusal stays; what was given goes on
+abbrev pub then : {A B : Type 0} → Answer A → (A → Answer B) → Answer B
+then (gives a) f = f a
+then (refuses n) f = refuses n

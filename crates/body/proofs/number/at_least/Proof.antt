@@ -1,0 +1,44 @@
+use mathlib.Core.Path.{_≡_, sym, ap, _∙_}
+use mathlib.Core.Bool.{true, false}
+use borrow.Author.Tests.{eq-eqb, ne-eqb, le-ltb, lt-ltb}
+use lib.IntN.{pos}
+use lib.Signed.{ltZ}
+use mir.Syntax.{w32, w64}
+use mir.Val.{toZ, ofZ, SFits}
+use mir.ValLaws.{toZ-ofZ}
+use Rattle.body.proofs.Laws.{at-most, widened}
+use borrow.Author.Needs.{needs}
+use Rattle.body.proofs.number.at_least.Statement.{statement}
+use Rattle.body.proofs.number.at_least.Tie as tie
+use Rattle.body.proofs.number.at_least.Reads as reads
+use Rattle.body.proofs.number.at_least.Lts as lts
+use Rattle.num.proofs.i64_at.Reads as i64-at-reads
+
+-- src/number.rt:55:9
+returns : tie.Need-returns
+returns c = rw (ne-eqb _ _ (c .if1 .taken))
+
+-- src/number.rt:57:9
+i64-at-requires : tie.Need-i64-at-requires
+i64-at-requires c κs = search needs
+
+-- src/number.rt:59:9
+returns-2 : tie.Need-returns-2
+returns-2 c =
+    let v = c .before .i64-at in
+    let a = c .before .before .before .before in
+    let back : toZ w64 (ofZ w64 (v .result)) ≡ v .result = search needs in
+    let t : ltZ (v .result) (a .args .least) ≡ true = simp (back, toZ-ofZ w64 (a .args .least) (a .fits .least)) at (c .if2 .taken) in
+    rw (eq-eqb _ _ (c .before .before .if1 .left), ← v .ensures, at-most (a .args .least) (v .result), t)
+
+-- src/number.rt:51:1
+returns-3 : tie.Need-returns-3
+returns-3 c =
+    let v = c .before .i64-at in
+    let a = c .before .before .before .before in
+    let back : toZ w64 (ofZ w64 (v .result)) ≡ v .result = search needs in
+    let t : ltZ (v .result) (a .args .least) ≡ false = simp (back, toZ-ofZ w64 (a .args .least) (a .fits .least)) at (c .if2 .left) in
+    rw (eq-eqb _ _ (c .before .before .if1 .left), ← v .ensures, at-most (a .args .least) (v .result), t, back)
+
+pub at-least-spec : {M : Type 1} → statement M
+at-least-spec = tie.close (tie.spec returns i64-at-requires returns-2 returns-3)

@@ -1,0 +1,48 @@
+use mathlib.Core.Path.{_≡_, sym, ap, _∙_}
+use mathlib.Core.Bool.{true, false}
+use borrow.Author.Tests.{eq-eqb, ne-eqb, le-ltb, lt-ltb}
+use lib.IntN.{pos}
+use lib.Signed.{ltZ}
+use mir.Syntax.{w32, w64}
+use mir.Val.{toZ, ofZ, SFits}
+use mir.ValLaws.{toZ-ofZ}
+use Rattle.body.proofs.Laws.{at-most, widened}
+use borrow.Author.Needs.{needs}
+use Rattle.body.proofs.number.bwof.Statement.{statement}
+use Rattle.body.proofs.number.bwof.Tie as tie
+use Rattle.body.proofs.number.bwof.Reads as reads
+use Rattle.body.proofs.number.bwof.Lts as lts
+use Rattle.num.proofs.i64_at.Reads as i64-at-reads
+
+-- src/number.rt:93:9
+returns : tie.Need-returns
+returns c = rw (ne-eqb _ _ (c .if1 .taken))
+
+-- src/number.rt:95:9
+i64-at-requires : tie.Need-i64-at-requires
+i64-at-requires c κs = search needs
+
+-- src/number.rt:96:9
+i64-at-requires-2 : tie.Need-i64-at-requires-2
+i64-at-requires-2 c κs = search needs
+
+-- src/number.rt:98:9
+returns-2 : tie.Need-returns-2
+returns-2 c =
+    let v = c .before .before .i64-at in
+    let back : toZ w64 (ofZ w64 (v .result)) ≡ v .result = search needs in
+    let t : ltZ (v .result) (pos 0) ≡ true = rw back at (c .if2 .taken) in
+    rw (eq-eqb _ _ (c .before .before .before .if1 .left), ← v .ensures, at-most (pos 0) (v .result), t)
+
+-- src/number.rt:89:1
+returns-3 : tie.Need-returns-3
+returns-3 c =
+    let v = c .before .before .i64-at in
+    let u = c .before .i64-at2 in
+    let back : toZ w64 (ofZ w64 (v .result)) ≡ v .result = search needs in
+    let back2 : toZ w64 (ofZ w64 (u .result)) ≡ u .result = search needs in
+    let t : ltZ (v .result) (pos 0) ≡ false = rw back at (c .if2 .left) in
+    rw (eq-eqb _ _ (c .before .before .before .if1 .left), ← v .ensures, ← u .ensures, at-most (pos 0) (v .result), t, back, back2)
+
+pub bwof-spec : {M : Type 1} → statement M
+bwof-spec = tie.close (tie.spec returns i64-at-requires i64-at-requires-2 returns-2 returns-3)

@@ -1,0 +1,29 @@
+// What is wrong with a body.
+ghost use mathlib.Core.Path.{_≡_};
+ghost use Rattle.body.specs.Fault.{faultNumber};
+
+pub enum Fault {
+    // The size is not that of the kind, or a text's length does not fit: number 11.
+    Size,
+    // A value that the kind does not allow: number 12.
+    Value,
+    // A count of channels that is not 1 to 16: number 13.
+    Count,
+    // Padding that is not zero: number 14.
+    Padding,
+    // A text that is not UTF-8: number 15.
+    Text,
+}
+
+// The number of a fault.
+pub fn number_of(fault: Fault) -> u32
+    ensures { λ r. ⌜ r ≡ faultNumber fault ⌝ }
+{
+    match fault {
+        Fault::Size => 11,
+        Fault::Value => 12,
+        Fault::Count => 13,
+        Fault::Padding => 14,
+        Fault::Text => 15,
+    }
+}

@@ -1,0 +1,76 @@
+// The level kinds: dBFS, dBTG, FFS_.
+ghost use mathlib.Core.Path.{_≡_};
+ghost use Rattle.body.specs.Levels.{floatSaid, levelSaid, finite32, dbfs, dbtg, ffs};
+use crate::fault::Fault;
+use num::Order;
+
+// A level is one of three kinds, each with a finite number.
+pub enum Level {
+    // The input level, in dBm, of a full swing.
+    FullScale(f32),
+    // The gain, in dB, from the receiver's input.
+    TotalGain(f32),
+    // The full swing of float samples.
+    FloatFullScale(f32),
+}
+
+pub enum LevelRead {
+    Is(Level),
+    Malformed(Fault),
+}
+
+pub enum FloatRead {
+    Finite(f32),
+    Faulty(Fault),
+}
+
+// The number of a body that is one finite float.
+fn finite(order: Order, body: &[u8]) -> FloatRead
+    ensures { λ r. ⌜ floatSaid r ≡ finite32 order (now (body .entry)) ⌝ }
+{
+    if body.len() != 4 {
+        return FloatRead::Faulty(Fault::Size);
+    }
+    let p = num::u32_at(order, body, 0);
+    let m = p % 0x8000_0000;
+    if m >= 0x7F80_0000 {
+        return FloatRead::Faulty(Fault::Value);
+    }
+    FloatRead::Finite(f32::from_bits(p))
+}
+
+// dBFS: full scale.
+pub fn dbfs(order: Order, body: &[u8]) -> LevelRead
+    ensures { λ r. ⌜ levelSaid r ≡ dbfs order (now (body .entry)) ⌝ }
+{
+    match finite(order, body) {
+        FloatRead::Finite(x) => LevelRead::Is(Level::FullScale(x)),
+        FloatRead::Faulty(f) => LevelRead::Malformed(f),
+    }
+}
+
+// dBTG: total gain.
+pub fn dbtg(order: Order, body: &[u8]) -> LevelRead
+    ensures { λ r. ⌜ levelSaid r ≡ dbtg order (now (body .entry)) ⌝ }
+{
+    match finite(order, body) {
+        FloatRead::Finite(x) => LevelRead::Is(Level::TotalGain(x)),
+        FloatRead::Faulty(f) => LevelRead::Malformed(f),
+    }
+}
+
+// FFS_: float full scale, above 0.
+pub fn ffs(order: Order, body: &[u8]) -> LevelRead
+    ensures { λ r. ⌜ levelSaid r ≡ ffs order (now (body .entry)) ⌝ }
+{
+    match finite(order, body) {
+        FloatRead::Finite(x) => {
+            if 0.0 < x {
+                LevelRead::Is(Level::FloatFullScale(x))
+            } else {
+                LevelRead::Malformed(Fault::Value)
+            }
+        }
+        FloatRead::Faulty(f) => LevelRead::Malformed(f),
+    }
+}

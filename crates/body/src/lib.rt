@@ -1,0 +1,5 @@
+// Bodies: the 22 kinds, and for each a checker of its body, which answers on any slice.
+pub mod fault;
+pub mod kind;
+pub mod level;
+pub mod number;
