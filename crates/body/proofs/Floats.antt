@@ -1,6 +1,6 @@
 -- Laws of the patterns of floats.
 use Prim.Native.Nat.{ℕ, zero, suc, _+_, _<_, _≤_, _/_, _%_}
-use mathlib.Core.Path.{_≡_, refl, _∙_}
+use mathlib.Core.Path.{_≡_, refl, sym, _∙_}
 use mathlib.Core.Bool.{Bool, true, false, not, cond}
 use native.Mathlib.Omega.{arith}
 use lib.Dec.{T, eqb, ltb, leb}
@@ -36,3 +36,6 @@ field-top m false h e = let k : 2139095040 ≤ m = ltb-false m 2139095040 e in r
 pub finite-bits : (n : ℕ) → isFinite (ofBits binary32 n) ≡ ltb (n % 2147483648) 2139095040
 unfolding ofBits
 finite-bits n = fields-finite (leb 2147483648 n) (n % 2147483648 / 8388608) (n % 8388608) ∙ field-top (n % 2147483648) _ (omega arith) refl
+
+pub finite-small : (n : ℕ) → isFinite (ofBits binary32 n) ≡ true → n % 2147483648 < 2139095040
+finite-small n h = ltb-true (n % 2147483648) 2139095040 (sym (finite-bits n) ∙ h)

@@ -1,2 +1,4 @@
 pub mod Laws
 pub mod Floats
+pub mod Lists
+pub mod Groups

@@ -1,5 +1,8 @@
 -- The numbers of what is wrong with a body.
 use Prim.Native.Nat.{ℕ}
+use Rattle.num.specs.Answer.{Answer, gives, refuses}
+use Rattle.body.specs.declared.fault.Checked.{Checked}
+use Rattle.body.specs.declared.fault.Checked.the-variants.{Good, Malformed}
 use Rattle.body.specs.declared.fault.Fault.{Fault}
 use Rattle.body.specs.declared.fault.Fault.the-variants.{Size, Value, Count, Padding, Text}
 
@@ -9,3 +12,8 @@ faultNumber Value = 12
 faultNumber Count = 13
 faultNumber Padding = 14
 faultNumber Text = 15
+
+-- what a verdict says of a value that stands beside it
+abbrev pub checkedSaid : {A : Type 0} → Checked → A → Answer A
+checkedSaid Good a = gives a
+checkedSaid (Malformed f) a = refuses (faultNumber f)

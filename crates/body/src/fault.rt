@@ -15,6 +15,12 @@ pub enum Fault {
     Text,
 }
 
+// A verdict on a body.
+pub enum Checked {
+    Good,
+    Malformed(Fault),
+}
+
 // The number of a fault.
 pub fn number_of(fault: Fault) -> u32
     ensures { λ r. ⌜ r ≡ faultNumber fault ⌝ }

@@ -1,5 +1,6 @@
 // Bodies: the 22 kinds, and for each a checker of its body, which answers on any slice.
 pub mod fault;
+pub mod group;
 pub mod kind;
 pub mod level;
 pub mod number;

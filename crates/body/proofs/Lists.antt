@@ -1,0 +1,69 @@
+-- Laws of lists of up to 16 values: a test of each, and places filled one by one.
+use Prim.Native.Nat.{ℕ, zero, suc, _+_, _<_, _≤_}
+use mathlib.Core.Path.{_≡_, refl, ap, sym, _∙_}
+use mathlib.Core.Bool.{Bool, true, false}
+use mathlib.Core.List.{List, [], _∷_}
+use native.Mathlib.Numerals.{add-one}
+use native.Mathlib.Omega.{arith}
+use lib.Dec.{ltb, eqb}
+use lib.ListN.{length, set, replicate}
+use borrow.Author.Tests.{lt-ltb, le-ltb, eqb-true, eqb-false}
+use Rattle.num.specs.Choice.{both}
+use Rattle.body.specs.Lists.{each, upto}
+
+both-false : (b : Bool) → both b false ≡ false
+both-false true = refl
+both-false false = refl
+
+module _ (p : ℕ → Bool) where
+  pub each-next : (c : ℕ) → each p c ≡ true → p c ≡ true → each p (c + 1) ≡ true
+  unfolding each
+  each-next c h q = rw (add-one c, h) q
+
+  stop-by : (m c : ℕ) (b : Bool) → eqb c m ≡ b → c < suc m → p c ≡ false → (c < m → each p m ≡ false) → both (each p m) (p m) ≡ false
+  stop-by m c true e h q r = let i : c ≡ m = eqb-true c m e in rw (← i, q) (both-false (each p c))
+  stop-by m c false e h q r = let n = eqb-false c m e in rw (r (omega arith))
+
+  -- one that fails decides
+  pub each-stop : (n c : ℕ) → c < n → p c ≡ false → each p n ≡ false
+  unfolding each
+  each-stop zero c h q = absurd (omega arith)
+  each-stop (suc m) c h q = stop-by m c (eqb c m) refl h q (λ k. each-stop m c k q)
+
+  at-by : (n c : ℕ) (b : Bool) → p c ≡ b → each p n ≡ true → c < n → p c ≡ true
+  at-by n c true e h k = e
+  at-by n c false e h k =
+      let q = each-stop n c k e in
+      let z : _≡_ {A = ℕ} 0 1 = cc in absurd (omega arith)
+
+  pub each-at : (n c : ℕ) → each p n ≡ true → c < n → p c ≡ true
+  each-at n c h k = at-by n c (p c) refl h k
+
+module _ {A : Type 0} (f : ℕ → A) (d : A) where
+  pub upto-none : (i k : ℕ) → replicate k d ≡ upto f d 0 i k
+  unfolding upto
+  upto-none i zero = refl
+  upto-none i (suc k) = rw (le-ltb i 0 (omega arith), upto-none (suc i) k)
+
+  pub upto-length : (n i k : ℕ) → length (upto f d n i k) ≡ k
+  unfolding upto
+  upto-length n i zero = refl
+  upto-length n i (suc k) = ap suc (upto-length n (suc i) k)
+
+  upto-past : (n m i k : ℕ) → n ≤ i → m ≤ i → upto f d n i k ≡ upto f d m i k
+  unfolding upto
+  upto-past n m i zero h g = refl
+  upto-past n m i (suc k) h g = rw (le-ltb i n h, le-ltb i m g, upto-past n m (suc i) k (omega arith) (omega arith))
+
+  upto-set : (n i j k : ℕ) → i + j ≡ n → j < k → set (upto f d n i k) j (f n) ≡ upto f d (n + 1) i k
+  unfolding upto
+  upto-set n i j zero e h = absurd (omega arith)
+  upto-set n i zero (suc k) e h =
+      let s : i ≡ n = omega arith in
+      rw (lt-ltb i (n + 1) (omega arith), upto-past n (n + 1) (suc i) k (omega arith) (omega arith), s)
+  upto-set n i (suc j) (suc k) e h =
+      rw (lt-ltb i (n + 1) (omega arith), lt-ltb i n (omega arith), upto-set n (suc i) j k (omega arith) (omega arith))
+
+  -- one place more is filled
+  pub upto-next : (n k : ℕ) (l : List A) (v : A) → n < k → l ≡ upto f d n 0 k → v ≡ f n → set l n v ≡ upto f d (n + 1) 0 k
+  upto-next n k l v h e q = rw (e, q, upto-set n 0 n k (omega arith) h)

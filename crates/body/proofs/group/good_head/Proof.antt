@@ -1,0 +1,15 @@
+use native.Mathlib.Omega.{arith}
+use Rattle.body.proofs.Laws.{is-pattern}
+use Rattle.body.proofs.group.good_head.Statement.{statement}
+use Rattle.body.proofs.group.good_head.Tie as tie
+use Rattle.body.proofs.group.good_head.Reads as reads
+use Rattle.body.proofs.group.good_head.Lts as lts
+
+-- src/group.rt:185:1
+returns : tie.Need-returns
+returns c =
+    let a = c .args in
+    rw (is-pattern 0 (a .packing) (omega arith), is-pattern 1 (a .packing) (omega arith), is-pattern 1 (a .increment) (omega arith), is-pattern (a .n) (a .increment) (omega arith))
+
+pub good-head-spec : {M : Type 1} → statement M
+good-head-spec = tie.close (tie.spec returns)
