@@ -2,3 +2,4 @@ pub mod Laws
 pub mod Floats
 pub mod Lists
 pub mod Groups
+pub mod Texts

@@ -5,3 +5,6 @@ pub mod Numbers
 pub mod Levels
 pub mod Lists
 pub mod Groups
+pub mod Samples
+pub mod Plain
+pub mod Verdict

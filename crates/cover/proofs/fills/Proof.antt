@@ -1,0 +1,154 @@
+-- The rule is the test of every channel, and after k turns the first k channels have passed it.
+use Prim.Native.Nat.{ℕ, _-_, _≤_}
+use mathlib.Core.Path.{_≡_, sym, _∙_}
+use mathlib.Core.Bool.{true, false}
+use mathlib.Core.List.{List}
+use native.Mathlib.Omega.{arith}
+use native.Mathlib.Nat.{mul-le-mul-right, mul-le-mul-left, mul-div-le}
+use native.Mathlib.Numerals.{add-one}
+use borrow.Author.Needs.{needs}
+use lib.ListN.{getD}
+use Rattle.cover.specs.Cover.{all, covers}
+use Rattle.cover.proofs.Counts.{all-none, all-next, all-not}
+use Rattle.cover.proofs.Laws.{unitAt, no-multiple, too-high, not-once, good, packed, some-each, verdict}
+use Rattle.cover.proofs.fills.Statement.{statement}
+use Rattle.cover.proofs.fills.Tie as tie
+
+abbrev at : List ℕ → ℕ → ℕ
+at offsets c = getD offsets c 0
+
+abbrev Inv-loop : tie.InvT-loop
+Inv-loop pairs n increment offsets unit k₀ k =
+    (covers n increment (at offsets) pairs ≡ all (unitAt n unit (at offsets)) n)
+    × (all (unitAt n unit (at offsets)) k ≡ true) × (k ≤ n) × (n ≤ 16)
+
+abbrev μ-loop : tie.MeasureT-loop
+μ-loop pairs n increment offsets unit k₀ k = n - k
+
+div-unit-of : tie.Need-div-unit-of Inv-loop μ-loop
+div-unit-of c = packed (c .args .n) (c .args .increment) (c .pre .0) .0
+
+unit-of-requires : tie.Need-unit-of-requires Inv-loop μ-loop
+unit-of-requires c κs = some-each (c .args .n) (c .args .pairs) (c .pre .1) (c .pre .2)
+
+loop-holds : tie.Need-loop-holds Inv-loop μ-loop
+loop-holds c =
+    let a = c .before .args in
+    let p = c .before .pre in (
+      rw (c .unit-of .ensures .0) (verdict (a .n) (a .increment) (a .pairs) (at (a .t4)) (p .0) (p .1) (p .2)),
+      all-none _,
+      omega arith,
+      packed (a .n) (a .increment) (p .0) .1,
+    )
+
+mul-wide : tie.Need-mul-wide Inv-loop μ-loop
+mul-wide c = omega arith
+
+array-read-wide : tie.Need-array-read-wide Inv-loop μ-loop
+array-read-wide c = omega arith
+
+wide-requires : tie.Need-wide-requires Inv-loop μ-loop
+wide-requires c κs = search needs
+
+-- the channels, their unit, their offsets and the channel of a turn
+abbrev N : tie.In-loop Inv-loop μ-loop → ℕ
+N c = c .before .before .before .args .n
+
+abbrev U : tie.In-loop Inv-loop μ-loop → ℕ
+U c = c .before .before .unit-of .result
+
+abbrev F : tie.In-loop Inv-loop μ-loop → ℕ → ℕ
+F c = at (c .before .before .before .args .t4)
+
+abbrev K : tie.In-loop Inv-loop μ-loop → ℕ
+K c = c .before .loop .k
+
+-- a channel that does not pass decides
+fails : (c : tie.In-loop Inv-loop μ-loop) → unitAt (N c) (U c) (F c) (K c) ≡ false →
+    let a = c .before .before .before .args in
+    false ≡ covers (a .n) (a .increment) (at (a .t4)) (a .pairs)
+fails c h = sym (c .before .loop .inv .0 ∙ all-not _ _ (K c) (c .loop-test .taken) h)
+
+rem-if1 : tie.Need-rem-if1 Inv-loop μ-loop
+rem-if1 c = c .before .before .before .unit-of .ensures .1
+
+returns : tie.Need-returns Inv-loop μ-loop
+returns c =
+    let w = c .before in
+    let i = w .before in
+    fails i (no-multiple (N i) (U i) (F i) (K i) (rw (w .wide .ensures) at (c .if1 .taken)))
+
+div-if2 : tie.Need-div-if2 Inv-loop μ-loop
+div-if2 c = c .before .before .before .before .unit-of .ensures .1
+
+returns-2 : tie.Need-returns-2 Inv-loop μ-loop
+returns-2 c =
+    let w = c .before .before in
+    let i = w .before in
+    fails i (too-high (N i) (U i) (F i) (K i) (rw (w .wide .ensures) at (c .if2 .taken)))
+
+mul-times : tie.Need-mul-times Inv-loop μ-loop
+mul-times c =
+    let l = c .before .before .before .before in
+    let a = l .before .before .args in
+    let u = l .before .unit-of in
+    let h : l .loop .k ≤ a .n = omega arith in
+    omega (arith, mul-le-mul-right (u .result) h, mul-le-mul-left (a .n) (u .ensures .2), mul-div-le (a .pairs) (a .n))
+
+times-requires : tie.Need-times-requires Inv-loop μ-loop
+times-requires c κs = omega arith
+
+returns-3 : tie.Need-returns-3 Inv-loop μ-loop
+returns-3 c =
+    let i = c .before .before .before .before .before in
+    fails i (not-once (N i) (U i) (F i) (K i) (rw (c .before .times .ensures) at (c .if3 .taken)))
+
+add-k : tie.Need-add-k Inv-loop μ-loop
+add-k c = omega arith
+
+loop-less : tie.Need-loop-less Inv-loop μ-loop
+loop-less c = omega arith
+
+loop-again : tie.Need-loop-again Inv-loop μ-loop
+loop-again c =
+    let w = c .before .before .before .before in
+    let i = w .before in
+    let inv = i .before .loop .inv in (
+      inv .0,
+      rw add-one (all-next (unitAt (N i) (U i) (F i)) (K i) (inv .1)
+          (good (N i) (U i) (F i) (K i) (rw (w .wide .ensures) at (c .before .before .before .if1 .left))
+          (rw (w .wide .ensures) at (c .before .before .if2 .left))
+          (rw (c .before .times .ensures) at (c .if3 .left)))),
+      omega arith,
+      omega arith,
+    )
+
+returns-4 : tie.Need-returns-4 Inv-loop μ-loop
+returns-4 c =
+    let l = c .before .loop in
+    let e : l .k ≡ c .before .before .before .args .n = omega arith in
+    sym (l .inv .0 ∙ rw e at (l .inv .1))
+
+pub fills-spec : {M : Type 1} → statement M
+fills-spec =
+    tie.close
+    (tie.spec
+    Inv-loop
+    μ-loop
+    div-unit-of
+    unit-of-requires
+    loop-holds
+    mul-wide
+    array-read-wide
+    wide-requires
+    rem-if1
+    returns
+    div-if2
+    returns-2
+    mul-times
+    times-requires
+    returns-3
+    add-k
+    loop-less
+    loop-again
+    returns-4)

@@ -1,0 +1,96 @@
+-- Which states are good: every present value is one that the body table allows, every absent value and every list place
+-- that is not used is 0. A state that is not good is refused with number 3 where its cursor is in step.
+use Prim.Native.Nat.{ℕ, zero, suc, _^_}
+use mathlib.Core.Bool.{Bool, true, false}
+use mathlib.Core.List.{List, [], _∷_}
+use lib.Dec.{eqb, ltb, leb}
+use lib.Ieee.{Float, nan, inf, fin, binary32, ofBits, lt}
+use lib.IntN.{ℤ, pos, negsuc}
+use lib.Signed.{leZ}
+use Rattle.num.specs.Choice.{pick, both, either}
+use Rattle.body.specs.Levels.{isFinite}
+use Rattle.body.specs.declared.group.GroupPacking.{GroupPacking}
+use Rattle.body.specs.declared.group.GroupHertz.{GroupHertz}
+use Rattle.body.specs.declared.group.GroupGains.{GroupGains}
+use Rattle.state.specs.declared.Held.{Held}
+use Rattle.state.specs.declared.BandHeld.{BandHeld}
+use Rattle.state.specs.declared.LevelHeld.{LevelHeld}
+use Rattle.state.specs.declared.State.{State}
+
+-- the integer is 0
+abbrev pub isZero : ℤ → Bool
+isZero (pos n) = eqb n 0
+isZero (negsuc n) = false
+
+-- the float is the one whose pattern is 0, which -0 is not
+abbrev pub isPlusZero : Float → Bool
+isPlusZero nan = false
+isPlusZero (inf s) = false
+isPlusZero (fin true m e) = false
+isPlusZero (fin false zero e) = true
+isPlusZero (fin false (suc m) e) = false
+
+-- a number that is absent and 0, or present and allowed
+abbrev pub goodNumber : (ℤ → Bool) → Held → Bool
+goodNumber ok h = pick (h .present) (ok (h .value)) (isZero (h .value))
+
+abbrev pub goodBand : BandHeld → Bool
+goodBand b = pick (b .present) (leZ (pos 0) (b .width)) (both (isZero (b .width)) (isZero (b .offset)))
+
+abbrev pub goodLevel : (Float → Bool) → LevelHeld → Bool
+goodLevel ok x = pick (x .present) (ok (x .value)) (isPlusZero (x .value))
+
+-- the values that the kinds allow
+abbrev pub zeroOrOne : ℤ → Bool
+zeroOrOne z = both (leZ (pos 0) z) (leZ z (pos 1))
+
+abbrev pub anyNumber : ℤ → Bool
+anyNumber z = true
+
+abbrev pub scale : Float → Bool
+scale x = both (isFinite x) (lt (ofBits binary32 0) x)
+
+-- from place i of a list on, a place below n is used and holds what is allowed, and the others hold what stands for nothing
+unfoldable pub goodFrom : {A : Type 0} → (A → Bool) → (A → Bool) → ℕ → ℕ → List A → Bool
+goodFrom ok none n i [] = true
+goodFrom ok none n i (x ∷ l) = both (pick (ltb i n) (ok x) (none x)) (goodFrom ok none n (suc i) l)
+
+-- up to 16 channels, of which there are none where the list is absent
+abbrev pub goodList : {A : Type 0} → (A → Bool) → (A → Bool) → ℕ → List A → Bool
+goodList ok none n l = both (leb n 16) (goodFrom ok none n 0 l)
+
+-- an offset is an int32 of at least 0
+abbrev pub offset : ℕ → Bool
+offset x = ltb x (2 ^ 31)
+
+abbrev pub nothing : ℕ → Bool
+nothing x = eqb x 0
+
+-- where there are channels, the increment is 1 or n; where there are none, it is 0 and the packing too
+abbrev pub goodHead : GroupPacking → Bool
+goodHead g =
+    pick (eqb (g .n) 0)
+    (both (eqb (g .increment) 0) (pick (g .iq) false true))
+    (either (eqb (g .increment) 1) (eqb (g .increment) (g .n)))
+
+abbrev pub goodGroup : GroupPacking → Bool
+goodGroup g = both (goodHead g) (goodList offset nothing (g .n) (g .offsets))
+
+abbrev pub goodFrequencies : GroupHertz → Bool
+goodFrequencies g = goodList anyNumber isZero (g .n) (g .values)
+
+abbrev pub goodGains : GroupGains → Bool
+goodGains g = goodList isFinite isPlusZero (g .n) (g .values)
+
+unfoldable pub goodState : State → Bool
+goodState s =
+    both (goodNumber zeroOrOne (s .packing))
+    (both (goodNumber (leZ (pos 1)) (s .rate))
+    (both (goodBand (s .band))
+    (both (goodNumber (leZ (pos 0)) (s .«group_band»))
+    (both (goodNumber anyNumber (s .centre))
+    (both (goodLevel isFinite (s .«full_scale»))
+    (both (goodLevel isFinite (s .«total_gain»))
+    (both (goodLevel scale (s .«float_scale»))
+    (both (goodGroup (s .group))
+    (both (goodFrequencies (s .frequencies)) (goodGains (s .gains)))))))))))
