@@ -18,10 +18,12 @@ use Rattle.num.specs.Choice.{pick, both, either}
 use Rattle.num.specs.Number.{unsignedAt}
 use Rattle.num.specs.declared.Order.{Order}
 use Rattle.body.specs.Check.{int32}
-use Rattle.body.specs.Fault.{faultNumber}
+use Rattle.body.specs.Fault.{faultNumber, checkedSaid}
 use Rattle.body.specs.Lists.{sixteen}
 use Rattle.body.specs.Groups.{Read, given, listed, isNumber, headOk, offsetAt, offsetsOk, packed}
 use Rattle.body.specs.declared.fault.Fault.{Fault}
+use Rattle.body.specs.Verdict.{seen}
+use Rattle.body.specs.declared.fault.Checked.{Checked}
 use Rattle.body.specs.declared.fault.Checked.the-variants.{Good, Malformed}
 use Rattle.body.proofs.Laws.{both-true, negative32, is-pattern, natural-pattern}
 
@@ -77,6 +79,14 @@ read-good v none rule e = record { said = sym e; holds = sym (ap (given none) e)
 
 pub read-faulty : {A : Type 0} (f : Fault) (v none : A) (rule : Answer A) → v ≡ none → rule ≡ refuses (faultNumber f) → Read (Malformed f) v none rule
 read-faulty f v none rule h e = record { said = sym e; holds = h ∙ sym (ap (given none) e) }
+
+seen-checked : {A : Type 0} (k : Checked) (v : A) → checkedSaid k tt ≡ seen (checkedSaid k v)
+seen-checked Good v = refl
+seen-checked (Malformed f) v = refl
+
+-- the verdict alone
+pub seen-read : {A : Type 0} {k : Checked} {v none : A} {rule : Answer A} → Read k v none rule → checkedSaid k tt ≡ seen rule
+seen-read {k = k} {v = v} h = seen-checked k v ∙ ap seen (h .said)
 
 -- ---- GIQP, by the patterns p of its packing and q of its increment
 
