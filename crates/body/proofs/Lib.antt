@@ -3,3 +3,4 @@ pub mod Floats
 pub mod Lists
 pub mod Groups
 pub mod Texts
+pub mod Marked

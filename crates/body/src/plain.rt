@@ -46,10 +46,12 @@ fn texts(body: &[u8], n: usize) -> TextRead
         return TextRead::Malformed(Fault::Size);
     }
     let end = 4 + n;
-    if !zeros(&body[end..]) {
+    let zero = zeros(&body[end..]);
+    let good = text::utf8(&body[4..end]);
+    if !zero {
         return TextRead::Malformed(Fault::Padding);
     }
-    if !text::utf8(&body[4..end]) {
+    if !good {
         return TextRead::Malformed(Fault::Text);
     }
     TextRead::Is(n)

@@ -1,36 +1,26 @@
-use mathlib.Core.Path.{_≡_, refl, sym, ap, _∙_}
+-- The count comes first, and the frequencies for that count.
+use mathlib.Core.Path.{refl}
 use Rattle.body.specs.Groups.{noHertz, tuned}
 use Rattle.body.proofs.Groups.{listed-then, read-good, read-faulty}
 use borrow.Author.Needs.{needs}
 use Rattle.body.proofs.group.gcf.Statement.{statement}
 use Rattle.body.proofs.group.gcf.Tie as tie
-use Rattle.body.proofs.group.gcf.Reads as reads
-use Rattle.body.proofs.group.gcf.Lts as lts
-use Rattle.body.proofs.group.count.Reads as count-reads
-use Rattle.body.proofs.group.hertz.Reads as hertz-reads
-use Rattle.body.proofs.group.no_hertz.Reads as no-hertz-reads
 
--- src/group.rt:226:11
 count-requires : tie.Need-count-requires
 count-requires c κs = search needs
 
--- src/group.rt:227:27
 enum-known-n : tie.Need-enum-known-n
 enum-known-n c = search needs
 
--- src/group.rt:231:25
 hertz-requires : tie.Need-hertz-requires
 hertz-requires c κs = (rw (c .before .n .given .1) at (c .before .before .before .count .ensures .1)) .1
 
--- src/group.rt:234:25
 enum-known-f : tie.Need-enum-known-f
 enum-known-f c = search needs
 
--- src/group.rt:236:20
 no-hertz-requires : tie.Need-no-hertz-requires
 no-hertz-requires c κs = search needs
 
--- src/group.rt:223:1
 returns : tie.Need-returns
 unfolding tuned
 returns c =
@@ -39,7 +29,6 @@ returns c =
     rw (listed-then 4 8 (a .order) (a .body .now) (tuned (a .order) (a .body .now)), ← n .ensures .0, c .before .before .n .given .1)
     (read-good _ noHertz _ (rw (c .hertz .ensures)))
 
--- src/group.rt:223:1
 returns-2 : tie.Need-returns-2
 returns-2 c =
     let a = c .before .before .before .before .before .before .args in

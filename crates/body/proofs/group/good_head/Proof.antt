@@ -1,11 +1,9 @@
+-- A number from 0 to 16 is told by its pattern.
 use native.Mathlib.Omega.{arith}
 use Rattle.body.proofs.Laws.{is-pattern}
 use Rattle.body.proofs.group.good_head.Statement.{statement}
 use Rattle.body.proofs.group.good_head.Tie as tie
-use Rattle.body.proofs.group.good_head.Reads as reads
-use Rattle.body.proofs.group.good_head.Lts as lts
 
--- src/group.rt:185:1
 returns : tie.Need-returns
 returns c =
     let a = c .args in

@@ -1,26 +1,16 @@
-use Prim.Native.Nat.{ℕ, _+_, _*_, _-_, _≤_}
-use mathlib.Core.Path.{_≡_, refl, sym, ap, _∙_}
-use mathlib.Core.Bool.{true, false}
+-- After c turns the first c places hold the frequencies.
+use Prim.Native.Nat.{_-_, _≤_}
+use mathlib.Core.Path.{_≡_, _∙_}
 use native.Mathlib.Omega.{arith}
 use borrow.Author.Needs.{needs}
-use borrow.Author.Tests.{le-ltb, lt-ltb, ltb-true}
-use lib.Ieee.{binary32, ofBits}
-use lib.IntN.{pos, natAbs}
-use lib.Signed.{leZ, ltZ}
-use mir.Syntax.{w32, w64}
+use lib.IntN.{pos}
+use mir.Syntax.{w64}
 use mir.Val.{toZ, ofZ}
-use mir.ValLaws.{toZ-pos}
-use Rattle.body.specs.Levels.{isFinite}
-use Rattle.body.specs.Lists.{each, sixteen, upto}
-use Rattle.body.specs.Groups.{offsetAt, hertzAt, gainAt}
-use Rattle.body.proofs.Floats.{no-nan, finite-bits, finite-small}
-use Rattle.body.proofs.Laws.{at-most}
-use Rattle.body.proofs.Lists.{each-next, each-stop, each-at, upto-none, upto-next}
+use Rattle.body.specs.Lists.{sixteen}
+use Rattle.body.specs.Groups.{hertzAt}
+use Rattle.body.proofs.Lists.{upto-none, upto-next}
 use Rattle.body.proofs.group.hertz.Statement.{statement}
 use Rattle.body.proofs.group.hertz.Tie as tie
-use Rattle.body.proofs.group.hertz.Reads as reads
-use Rattle.body.proofs.group.hertz.Lts as lts
-use Rattle.num.proofs.i64_at.Reads as i64-at-reads
 
 abbrev Inv-loop : tie.InvT-loop
 Inv-loop order body n a₀ c₀ a c = (c ≤ n) × (a ≡ sixteen (hertzAt order body) (pos 0) c)
@@ -28,41 +18,32 @@ Inv-loop order body n a₀ c₀ a c = (c ≤ n) × (a ≡ sixteen (hertzAt order
 abbrev μ-loop : tie.MeasureT-loop
 μ-loop order body n a₀ c₀ a c = n - c
 
--- src/group.rt:140:5
 loop-holds : tie.Need-loop-holds Inv-loop μ-loop
 loop-holds c =
     let a = c .before .args in
     (omega arith, upto-none (hertzAt (a .order) (a .body .now)) (pos 0) 0 16)
 
--- src/group.rt:141:45
 mul-i64-at : tie.Need-mul-i64-at Inv-loop μ-loop
 mul-i64-at c = search needs
 
--- src/group.rt:141:41
 add-i64-at : tie.Need-add-i64-at Inv-loop μ-loop
 add-i64-at c = search needs
 
--- src/group.rt:141:16
 i64-at-requires : tie.Need-i64-at-requires Inv-loop μ-loop
 i64-at-requires c κs = search needs
 
--- src/group.rt:141:9
 mul-a : tie.Need-mul-a Inv-loop μ-loop
 mul-a c = search needs
 
--- src/group.rt:141:9
 array-set-from-a : tie.Need-array-set-from-a Inv-loop μ-loop
 array-set-from-a c = search needs
 
--- src/group.rt:142:9
 add-c : tie.Need-add-c Inv-loop μ-loop
 add-c c = search needs
 
--- src/group.rt:140:5
 loop-less : tie.Need-loop-less Inv-loop μ-loop
 loop-less c = search needs
 
--- src/group.rt:140:5
 loop-again : tie.Need-loop-again Inv-loop μ-loop
 unfolding hertzAt
 loop-again c =
@@ -72,7 +53,6 @@ loop-again c =
     let back : toZ w64 (ofZ w64 (v .result)) ≡ v .result = search needs in
     (omega arith, upto-next (hertzAt (a .order) (a .body .now)) (pos 0) (l .c) 16 (l .a) _ (omega arith) (l .inv .1) (back ∙ v .ensures))
 
--- src/group.rt:134:1
 returns : tie.Need-returns Inv-loop μ-loop
 returns c =
     let l = c .before .loop in

@@ -1,35 +1,24 @@
-use mathlib.Core.Path.{_≡_, sym, ap, _∙_}
+-- The head and the offsets are tested; where both are good, the values are those that were read.
+use mathlib.Core.Path.{sym, _∙_}
 use borrow.Author.Tests.{not-true, not-false}
 use Rattle.body.specs.Groups.{noPacking, packed}
 use Rattle.body.proofs.Groups.{read-good, packed-head, packed-offsets, packed-good}
 use borrow.Author.Needs.{needs}
 use Rattle.body.proofs.group.packing_of.Statement.{statement}
 use Rattle.body.proofs.group.packing_of.Tie as tie
-use Rattle.body.proofs.group.packing_of.Reads as reads
-use Rattle.body.proofs.group.packing_of.Lts as lts
-use Rattle.body.proofs.group.good_head.Reads as good-head-reads
-use Rattle.body.proofs.group.good_offsets.Reads as good-offsets-reads
-use Rattle.body.proofs.group.offsets.Reads as offsets-reads
-use Rattle.body.proofs.group.packing_faulty.Reads as packing-faulty-reads
-use Rattle.num.proofs.u32_at.Reads as u32-at-reads
 
--- src/group.rt:197:9
 u32-at-requires : tie.Need-u32-at-requires
 u32-at-requires c κs = search needs
 
--- src/group.rt:198:9
 u32-at-requires-2 : tie.Need-u32-at-requires-2
 u32-at-requires-2 c κs = search needs
 
--- src/group.rt:199:9
 good-head-requires : tie.Need-good-head-requires
 good-head-requires c κs = search needs
 
--- src/group.rt:200:9
 packing-faulty-requires : tie.Need-packing-faulty-requires
 packing-faulty-requires c κs = search needs
 
--- src/group.rt:200:9
 returns : tie.Need-returns
 returns c =
     let h = c .before .before in
@@ -39,15 +28,12 @@ returns c =
     let g = h .good-head in
     rw (packed-head (a .order) (a .body .now) (a .n) (p .result) (q .result) (p .ensures) (q .ensures) (sym (g .ensures) ∙ not-true (g .result) (c .before .if1 .taken))) (c .packing-faulty .ensures)
 
--- src/group.rt:202:9
 good-offsets-requires : tie.Need-good-offsets-requires
 good-offsets-requires c κs = search needs
 
--- src/group.rt:203:9
 packing-faulty-requires-2 : tie.Need-packing-faulty-requires-2
 packing-faulty-requires-2 c κs = search needs
 
--- src/group.rt:203:9
 returns-2 : tie.Need-returns-2
 returns-2 c =
     let h = c .before .before .before .before in
@@ -59,13 +45,11 @@ returns-2 c =
     rw (packed-offsets (a .order) (a .body .now) (a .n) (p .result) (q .result) (p .ensures) (q .ensures) (sym (g .ensures) ∙ not-false (g .result) (c .before .before .before .if1 .left)) (sym (o .ensures) ∙ not-true (o .result) (c .before .if2 .taken)))
     (c .packing-faulty2 .ensures)
 
--- src/group.rt:211:22
 offsets-requires : tie.Need-offsets-requires
 offsets-requires c κs =
     let o = c .before .good-offsets in
     (search needs, sym (o .ensures) ∙ not-false (o .result) (c .if2 .left))
 
--- src/group.rt:193:1
 returns-3 : tie.Need-returns-3
 returns-3 c =
     let h = c .before .before .before .before in

@@ -1,121 +1,97 @@
+-- Each arm's number is the code of its kind; any other number is the code of none.
 use borrow.Author.Tests.{ne-eqb}
 use Rattle.body.specs.Kind.{kindOf, kindIn, known}
 use Rattle.body.proofs.kind.kind_of.Statement.{statement}
 use Rattle.body.proofs.kind.kind_of.Tie as tie
-use Rattle.body.proofs.kind.kind_of.Reads as reads
-use Rattle.body.proofs.kind.kind_of.Lts as lts
 
--- src/kind.rt:33:1
 returns : tie.Need-returns
 unfolding kindOf kindIn known
 returns c = rw (c .match .keys1)
 
--- src/kind.rt:33:1
 returns-2 : tie.Need-returns-2
 unfolding kindOf kindIn known
 returns-2 c = rw (c .match .keys2)
 
--- src/kind.rt:33:1
 returns-3 : tie.Need-returns-3
 unfolding kindOf kindIn known
 returns-3 c = rw (c .match .keys3)
 
--- src/kind.rt:33:1
 returns-4 : tie.Need-returns-4
 unfolding kindOf kindIn known
 returns-4 c = rw (c .match .keys4)
 
--- src/kind.rt:33:1
 returns-5 : tie.Need-returns-5
 unfolding kindOf kindIn known
 returns-5 c = rw (c .match .keys5)
 
--- src/kind.rt:33:1
 returns-6 : tie.Need-returns-6
 unfolding kindOf kindIn known
 returns-6 c = rw (c .match .keys6)
 
--- src/kind.rt:33:1
 returns-7 : tie.Need-returns-7
 unfolding kindOf kindIn known
 returns-7 c = rw (c .match .keys7)
 
--- src/kind.rt:33:1
 returns-8 : tie.Need-returns-8
 unfolding kindOf kindIn known
 returns-8 c = rw (c .match .keys8)
 
--- src/kind.rt:33:1
 returns-9 : tie.Need-returns-9
 unfolding kindOf kindIn known
 returns-9 c = rw (c .match .keys9)
 
--- src/kind.rt:33:1
 returns-10 : tie.Need-returns-10
 unfolding kindOf kindIn known
 returns-10 c = rw (c .match .keys10)
 
--- src/kind.rt:33:1
 returns-11 : tie.Need-returns-11
 unfolding kindOf kindIn known
 returns-11 c = rw (c .match .keys11)
 
--- src/kind.rt:33:1
 returns-12 : tie.Need-returns-12
 unfolding kindOf kindIn known
 returns-12 c = rw (c .match .keys12)
 
--- src/kind.rt:33:1
 returns-13 : tie.Need-returns-13
 unfolding kindOf kindIn known
 returns-13 c = rw (c .match .keys13)
 
--- src/kind.rt:33:1
 returns-14 : tie.Need-returns-14
 unfolding kindOf kindIn known
 returns-14 c = rw (c .match .keys14)
 
--- src/kind.rt:33:1
 returns-15 : tie.Need-returns-15
 unfolding kindOf kindIn known
 returns-15 c = rw (c .match .keys15)
 
--- src/kind.rt:33:1
 returns-16 : tie.Need-returns-16
 unfolding kindOf kindIn known
 returns-16 c = rw (c .match .keys16)
 
--- src/kind.rt:33:1
 returns-17 : tie.Need-returns-17
 unfolding kindOf kindIn known
 returns-17 c = rw (c .match .keys17)
 
--- src/kind.rt:33:1
 returns-18 : tie.Need-returns-18
 unfolding kindOf kindIn known
 returns-18 c = rw (c .match .keys18)
 
--- src/kind.rt:33:1
 returns-19 : tie.Need-returns-19
 unfolding kindOf kindIn known
 returns-19 c = rw (c .match .keys19)
 
--- src/kind.rt:33:1
 returns-20 : tie.Need-returns-20
 unfolding kindOf kindIn known
 returns-20 c = rw (c .match .keys20)
 
--- src/kind.rt:33:1
 returns-21 : tie.Need-returns-21
 unfolding kindOf kindIn known
 returns-21 c = rw (c .match .keys21)
 
--- src/kind.rt:33:1
 returns-22 : tie.Need-returns-22
 unfolding kindOf kindIn known
 returns-22 c = rw (c .match .keys22)
 
--- src/kind.rt:33:1
 returns-23 : tie.Need-returns-23
 unfolding kindOf kindIn known
 returns-23 c =

@@ -1,27 +1,20 @@
+-- The finite float of the body, as a full scale.
 use borrow.Author.Needs.{needs}
 use Rattle.body.proofs.level.dbfs.Statement.{statement}
 use Rattle.body.proofs.level.dbfs.Tie as tie
-use Rattle.body.proofs.level.dbfs.Reads as reads
-use Rattle.body.proofs.level.dbfs.Lts as lts
-use Rattle.body.proofs.level.finite.Reads as finite-reads
 
--- src/level.rt:46:11
 finite-requires : tie.Need-finite-requires
 finite-requires c κs = search needs
 
--- src/level.rt:47:27
 enum-known-x : tie.Need-enum-known-x
 enum-known-x c = search needs
 
--- src/level.rt:48:27
 enum-known-f : tie.Need-enum-known-f
 enum-known-f c = search needs
 
--- src/level.rt:43:1
 returns : tie.Need-returns
 returns c = rw (← c .before .before .before .finite .ensures, c .before .x .given .1)
 
--- src/level.rt:43:1
 returns-2 : tie.Need-returns-2
 returns-2 c = rw (← c .before .before .before .finite .ensures, c .before .f .given .1)
 

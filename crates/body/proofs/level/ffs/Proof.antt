@@ -1,31 +1,23 @@
+-- The finite float of the body, where it is above 0.
 use borrow.Author.Needs.{needs}
 use Rattle.body.proofs.level.ffs.Statement.{statement}
 use Rattle.body.proofs.level.ffs.Tie as tie
-use Rattle.body.proofs.level.ffs.Reads as reads
-use Rattle.body.proofs.level.ffs.Lts as lts
-use Rattle.body.proofs.level.finite.Reads as finite-reads
 
--- src/level.rt:66:11
 finite-requires : tie.Need-finite-requires
 finite-requires c κs = search needs
 
--- src/level.rt:67:27
 enum-known-x : tie.Need-enum-known-x
 enum-known-x c = search needs
 
--- src/level.rt:74:27
 enum-known-f : tie.Need-enum-known-f
 enum-known-f c = search needs
 
--- src/level.rt:63:1
 returns : tie.Need-returns
 returns c = rw (← c .before .before .before .before .finite .ensures, c .before .before .x .given .1, c .if1 .taken)
 
--- src/level.rt:63:1
 returns-2 : tie.Need-returns-2
 returns-2 c = rw (← c .before .before .before .before .finite .ensures, c .before .before .x .given .1, c .if1 .left)
 
--- src/level.rt:63:1
 returns-3 : tie.Need-returns-3
 returns-3 c = rw (← c .before .before .before .finite .ensures, c .before .f .given .1)
 

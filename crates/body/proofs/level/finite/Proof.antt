@@ -1,29 +1,22 @@
+-- A float is finite where its pattern, without the sign, is below an infinity's.
 use borrow.Author.Tests.{eq-eqb, ne-eqb, le-ltb, lt-ltb}
 use Rattle.body.proofs.Floats.{no-nan, finite-bits}
 use borrow.Author.Needs.{needs}
 use Rattle.body.proofs.level.finite.Statement.{statement}
 use Rattle.body.proofs.level.finite.Tie as tie
-use Rattle.body.proofs.level.finite.Reads as reads
-use Rattle.body.proofs.level.finite.Lts as lts
-use Rattle.num.proofs.u32_at.Reads as u32-at-reads
 
--- src/level.rt:32:9
 returns : tie.Need-returns
 returns c = rw (ne-eqb _ _ (c .if1 .taken))
 
--- src/level.rt:34:9
 u32-at-requires : tie.Need-u32-at-requires
 u32-at-requires c κs = search needs
 
--- src/level.rt:37:9
 returns-2 : tie.Need-returns-2
 returns-2 c = simp (eq-eqb _ _ (c .before .before .if1 .left), ← c .before .u32-at .ensures, finite-bits, le-ltb _ _ (c .if2 .taken))
 
--- src/level.rt:39:23
 float-from-bits-t9 : tie.Need-float-from-bits-t9
 float-from-bits-t9 c = no-nan _ (c .if2 .left)
 
--- src/level.rt:28:1
 returns-3 : tie.Need-returns-3
 returns-3 c = simp (eq-eqb _ _ (c .before .before .if1 .left), ← c .before .u32-at .ensures, finite-bits, lt-ltb _ _ (c .if2 .left))
 

@@ -1,28 +1,22 @@
-use mathlib.Core.Path.{_≡_, sym, ap, _∙_}
+-- The size, then the least value.
+use mathlib.Core.Path.{_≡_}
 use mathlib.Core.Bool.{true, false}
-use borrow.Author.Tests.{eq-eqb, ne-eqb, le-ltb, lt-ltb}
-use lib.IntN.{pos}
+use borrow.Author.Tests.{eq-eqb, ne-eqb}
 use lib.Signed.{ltZ}
-use mir.Syntax.{w32, w64}
-use mir.Val.{toZ, ofZ, SFits}
+use mir.Syntax.{w64}
+use mir.Val.{toZ, ofZ}
 use mir.ValLaws.{toZ-ofZ}
-use Rattle.body.proofs.Laws.{at-most, widened}
+use Rattle.body.proofs.Laws.{at-most}
 use borrow.Author.Needs.{needs}
 use Rattle.body.proofs.number.at_least.Statement.{statement}
 use Rattle.body.proofs.number.at_least.Tie as tie
-use Rattle.body.proofs.number.at_least.Reads as reads
-use Rattle.body.proofs.number.at_least.Lts as lts
-use Rattle.num.proofs.i64_at.Reads as i64-at-reads
 
--- src/number.rt:55:9
 returns : tie.Need-returns
 returns c = rw (ne-eqb _ _ (c .if1 .taken))
 
--- src/number.rt:57:9
 i64-at-requires : tie.Need-i64-at-requires
 i64-at-requires c κs = search needs
 
--- src/number.rt:59:9
 returns-2 : tie.Need-returns-2
 returns-2 c =
     let v = c .before .i64-at in
@@ -31,7 +25,6 @@ returns-2 c =
     let t : ltZ (v .result) (a .args .least) ≡ true = simp (back, toZ-ofZ w64 (a .args .least) (a .fits .least)) at (c .if2 .taken) in
     rw (eq-eqb _ _ (c .before .before .if1 .left), ← v .ensures, at-most (a .args .least) (v .result), t)
 
--- src/number.rt:51:1
 returns-3 : tie.Need-returns-3
 returns-3 c =
     let v = c .before .i64-at in

@@ -1,32 +1,25 @@
-use mathlib.Core.Path.{_≡_, sym, ap, _∙_}
+-- The size, then the least bandwidth; any offset will do.
+use mathlib.Core.Path.{_≡_}
 use mathlib.Core.Bool.{true, false}
-use borrow.Author.Tests.{eq-eqb, ne-eqb, le-ltb, lt-ltb}
+use borrow.Author.Tests.{eq-eqb, ne-eqb}
 use lib.IntN.{pos}
 use lib.Signed.{ltZ}
-use mir.Syntax.{w32, w64}
-use mir.Val.{toZ, ofZ, SFits}
-use mir.ValLaws.{toZ-ofZ}
-use Rattle.body.proofs.Laws.{at-most, widened}
+use mir.Syntax.{w64}
+use mir.Val.{toZ, ofZ}
+use Rattle.body.proofs.Laws.{at-most}
 use borrow.Author.Needs.{needs}
 use Rattle.body.proofs.number.bwof.Statement.{statement}
 use Rattle.body.proofs.number.bwof.Tie as tie
-use Rattle.body.proofs.number.bwof.Reads as reads
-use Rattle.body.proofs.number.bwof.Lts as lts
-use Rattle.num.proofs.i64_at.Reads as i64-at-reads
 
--- src/number.rt:93:9
 returns : tie.Need-returns
 returns c = rw (ne-eqb _ _ (c .if1 .taken))
 
--- src/number.rt:95:9
 i64-at-requires : tie.Need-i64-at-requires
 i64-at-requires c κs = search needs
 
--- src/number.rt:96:9
 i64-at-requires-2 : tie.Need-i64-at-requires-2
 i64-at-requires-2 c κs = search needs
 
--- src/number.rt:98:9
 returns-2 : tie.Need-returns-2
 returns-2 c =
     let v = c .before .before .i64-at in
@@ -34,7 +27,6 @@ returns-2 c =
     let t : ltZ (v .result) (pos 0) ≡ true = rw back at (c .if2 .taken) in
     rw (eq-eqb _ _ (c .before .before .before .if1 .left), ← v .ensures, at-most (pos 0) (v .result), t)
 
--- src/number.rt:89:1
 returns-3 : tie.Need-returns-3
 returns-3 c =
     let v = c .before .before .i64-at in

@@ -1,28 +1,23 @@
-use mathlib.Core.Path.{_≡_, sym, ap, _∙_}
+-- The size, then 0 or 1.
+use mathlib.Core.Path.{_≡_}
 use mathlib.Core.Bool.{true, false}
-use borrow.Author.Tests.{eq-eqb, ne-eqb, le-ltb, lt-ltb}
+use borrow.Author.Tests.{eq-eqb, ne-eqb}
 use lib.IntN.{pos}
 use lib.Signed.{ltZ}
 use mir.Syntax.{w32, w64}
-use mir.Val.{toZ, ofZ, SFits}
+use mir.Val.{toZ, ofZ}
 use mir.ValLaws.{toZ-ofZ}
 use Rattle.body.proofs.Laws.{at-most, widened}
 use borrow.Author.Needs.{needs}
 use Rattle.body.proofs.number.siqp.Statement.{statement}
 use Rattle.body.proofs.number.siqp.Tie as tie
-use Rattle.body.proofs.number.siqp.Reads as reads
-use Rattle.body.proofs.number.siqp.Lts as lts
-use Rattle.num.proofs.i32_at.Reads as i32-at-reads
 
--- src/number.rt:29:9
 returns : tie.Need-returns
 returns c = rw (ne-eqb _ _ (c .if1 .taken))
 
--- src/number.rt:31:9
 i32-at-requires : tie.Need-i32-at-requires
 i32-at-requires c κs = search needs
 
--- src/number.rt:33:9
 returns-2 : tie.Need-returns-2
 returns-2 c =
     let v = c .before .i32-at in
@@ -30,7 +25,6 @@ returns-2 c =
     let t : ltZ (v .result) (pos 0) ≡ true = rw back at (c .if2 .taken) in
     rw (eq-eqb _ _ (c .before .before .if1 .left), ← v .ensures, at-most (pos 0) (v .result), t)
 
--- src/number.rt:36:9
 returns-3 : tie.Need-returns-3
 returns-3 c =
     let v = c .before .before .i32-at in
@@ -39,14 +33,12 @@ returns-3 c =
     let u : ltZ (pos 1) (v .result) ≡ true = rw back at (c .if3 .taken) in
     rw (eq-eqb _ _ (c .before .before .before .if1 .left), ← v .ensures, at-most (pos 0) (v .result), at-most (v .result) (pos 1), t, u)
 
--- src/number.rt:38:16
 cast-t9 : tie.Need-cast-t9
 cast-t9 c =
     let v = c .before .before .i32-at in
     let back : toZ w32 (ofZ w32 (v .result)) ≡ v .result = search needs in
     rw back (widened (v .result) (v .ok))
 
--- src/number.rt:25:1
 returns-4 : tie.Need-returns-4
 returns-4 c =
     let v = c .before .before .i32-at in

@@ -1,14 +1,11 @@
+-- No byte, or the size is wrong.
 use borrow.Author.Tests.{eq-eqb, ne-eqb}
 use Rattle.body.proofs.plain.empty.Statement.{statement}
 use Rattle.body.proofs.plain.empty.Tie as tie
-use Rattle.body.proofs.plain.empty.Reads as reads
-use Rattle.body.proofs.plain.empty.Lts as lts
 
--- src/plain.rt:17:1
 returns : tie.Need-returns
 returns c = rw (eq-eqb _ _ (c .if1 .taken))
 
--- src/plain.rt:17:1
 returns-2 : tie.Need-returns-2
 returns-2 c = rw (ne-eqb _ _ (c .if1 .left))
 

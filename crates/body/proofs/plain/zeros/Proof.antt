@@ -1,4 +1,5 @@
-use Prim.Native.Nat.{_+_, _-_}
+-- What is ahead is all zero exactly where the whole is.
+use Prim.Native.Nat.{_-_}
 use mathlib.Core.Path.{_≡_, refl, sym, _∙_}
 use native.Mathlib.Omega.{arith}
 use borrow.Author.Needs.{needs}
@@ -8,8 +9,6 @@ use Rattle.body.specs.Plain.{zeros}
 use Rattle.body.proofs.Texts.{zeros-step}
 use Rattle.body.proofs.plain.zeros.Statement.{statement}
 use Rattle.body.proofs.plain.zeros.Tie as tie
-use Rattle.body.proofs.plain.zeros.Reads as reads
-use Rattle.body.proofs.plain.zeros.Lts as lts
 
 abbrev Inv-loop : tie.InvT-loop
 Inv-loop s i₀ i = zeros (drop i s) ≡ zeros s
@@ -17,37 +16,30 @@ Inv-loop s i₀ i = zeros (drop i s) ≡ zeros s
 abbrev μ-loop : tie.MeasureT-loop
 μ-loop s i₀ i = length s - i
 
--- src/plain.rt:31:5
 loop-holds : tie.Need-loop-holds Inv-loop μ-loop
 loop-holds c = refl
 
--- src/plain.rt:32:12
 shared-slice-read-if1 : tie.Need-shared-slice-read-if1 Inv-loop μ-loop
 shared-slice-read-if1 c = search needs
 
--- src/plain.rt:33:13
 returns : tie.Need-returns Inv-loop μ-loop
 returns c =
     let s = c .before .before .before .before .args .s .now in
     let l = c .before .before .before .loop in
     sym (sym (l .inv) ∙ zeros-step s (l .i) (omega arith) ∙ rw (ne-eqb _ _ (c .if1 .taken)))
 
--- src/plain.rt:35:9
 add-i : tie.Need-add-i Inv-loop μ-loop
 add-i c = search needs
 
--- src/plain.rt:31:5
 loop-less : tie.Need-loop-less Inv-loop μ-loop
 loop-less c = search needs
 
--- src/plain.rt:31:5
 loop-again : tie.Need-loop-again Inv-loop μ-loop
 loop-again c =
     let s = c .before .before .before .before .args .s .now in
     let l = c .before .before .before .loop in
     sym (zeros-step s (l .i) (omega arith) ∙ rw (eq-eqb _ _ (c .if1 .left))) ∙ l .inv
 
--- src/plain.rt:27:1
 returns-2 : tie.Need-returns-2 Inv-loop μ-loop
 unfolding zeros
 returns-2 c =

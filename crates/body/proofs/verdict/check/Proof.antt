@@ -1,396 +1,285 @@
+-- Each arm asks the checker of its kind.
 use mathlib.Core.Path.{ap, _∙_}
 use Rattle.body.specs.Verdict.{seen, verdict}
 use Rattle.body.proofs.Groups.{seen-read}
 use borrow.Author.Needs.{needs}
 use Rattle.body.proofs.verdict.check.Statement.{statement}
 use Rattle.body.proofs.verdict.check.Tie as tie
-use Rattle.body.proofs.verdict.check.Reads as reads
-use Rattle.body.proofs.verdict.check.Lts as lts
-use Rattle.body.proofs.data.gfnc.Reads as gfnc-reads
-use Rattle.body.proofs.data.gsnc.Reads as gsnc-reads
-use Rattle.body.proofs.data.sfnc.Reads as sfnc-reads
-use Rattle.body.proofs.data.sfnr.Reads as sfnr-reads
-use Rattle.body.proofs.data.ssnc.Reads as ssnc-reads
-use Rattle.body.proofs.data.ssnr.Reads as ssnr-reads
-use Rattle.body.proofs.group.gcf.Reads as gcf-reads
-use Rattle.body.proofs.group.giqp.Reads as giqp-reads
-use Rattle.body.proofs.group.grg.Reads as grg-reads
-use Rattle.body.proofs.level.dbfs.Reads as dbfs-reads
-use Rattle.body.proofs.level.dbtg.Reads as dbtg-reads
-use Rattle.body.proofs.level.ffs.Reads as ffs-reads
-use Rattle.body.proofs.number.bw.Reads as bw-reads
-use Rattle.body.proofs.number.bwof.Reads as bwof-reads
-use Rattle.body.proofs.number.cf.Reads as cf-reads
-use Rattle.body.proofs.number.siqp.Reads as siqp-reads
-use Rattle.body.proofs.number.sofh.Reads as sofh-reads
-use Rattle.body.proofs.number.sr.Reads as sr-reads
-use Rattle.body.proofs.plain.empty.Reads as empty-reads
-use Rattle.body.proofs.plain.text.Reads as text-reads
-use Rattle.body.proofs.verdict.of_band.Reads as of-band-reads
-use Rattle.body.proofs.verdict.of_data.Reads as of-data-reads
-use Rattle.body.proofs.verdict.of_level.Reads as of-level-reads
-use Rattle.body.proofs.verdict.of_number.Reads as of-number-reads
-use Rattle.body.proofs.verdict.of_text.Reads as of-text-reads
 
--- src/verdict.rt:73:31
 enum-told : tie.Need-enum-told
 enum-told c = search needs
 
--- src/verdict.rt:73:31
 ssnc-requires : tie.Need-ssnc-requires
 ssnc-requires c κs = search needs
 
--- src/verdict.rt:73:23
 of-data-requires : tie.Need-of-data-requires
 of-data-requires c κs = search needs
 
--- src/verdict.rt:74:31
 enum-told-2 : tie.Need-enum-told-2
 enum-told-2 c = search needs
 
--- src/verdict.rt:74:31
 ssnr-requires : tie.Need-ssnr-requires
 ssnr-requires c κs = search needs
 
--- src/verdict.rt:74:23
 of-data-requires-2 : tie.Need-of-data-requires-2
 of-data-requires-2 c κs = search needs
 
--- src/verdict.rt:75:31
 enum-told-3 : tie.Need-enum-told-3
 enum-told-3 c = search needs
 
--- src/verdict.rt:75:31
 sfnc-requires : tie.Need-sfnc-requires
 sfnc-requires c κs = search needs
 
--- src/verdict.rt:75:23
 of-data-requires-3 : tie.Need-of-data-requires-3
 of-data-requires-3 c κs = search needs
 
--- src/verdict.rt:76:31
 enum-told-4 : tie.Need-enum-told-4
 enum-told-4 c = search needs
 
--- src/verdict.rt:76:31
 sfnr-requires : tie.Need-sfnr-requires
 sfnr-requires c κs = search needs
 
--- src/verdict.rt:76:23
 of-data-requires-4 : tie.Need-of-data-requires-4
 of-data-requires-4 c κs = search needs
 
--- src/verdict.rt:77:31
 enum-told-5 : tie.Need-enum-told-5
 enum-told-5 c = search needs
 
--- src/verdict.rt:77:31
 gsnc-requires : tie.Need-gsnc-requires
 gsnc-requires c κs = search needs
 
--- src/verdict.rt:77:23
 of-data-requires-5 : tie.Need-of-data-requires-5
 of-data-requires-5 c κs = search needs
 
--- src/verdict.rt:78:31
 enum-told-6 : tie.Need-enum-told-6
 enum-told-6 c = search needs
 
--- src/verdict.rt:78:31
 gfnc-requires : tie.Need-gfnc-requires
 gfnc-requires c κs = search needs
 
--- src/verdict.rt:78:23
 of-data-requires-6 : tie.Need-of-data-requires-6
 of-data-requires-6 c κs = search needs
 
--- src/verdict.rt:79:33
 enum-told-7 : tie.Need-enum-told-7
 enum-told-7 c = search needs
 
--- src/verdict.rt:79:33
 siqp-requires : tie.Need-siqp-requires
 siqp-requires c κs = search needs
 
--- src/verdict.rt:79:23
 of-number-requires : tie.Need-of-number-requires
 of-number-requires c κs = search needs
 
--- src/verdict.rt:80:31
 enum-told-8 : tie.Need-enum-told-8
 enum-told-8 c = search needs
 
--- src/verdict.rt:80:31
 sr-requires : tie.Need-sr-requires
 sr-requires c κs = search needs
 
--- src/verdict.rt:80:21
 of-number-requires-2 : tie.Need-of-number-requires-2
 of-number-requires-2 c κs = search needs
 
--- src/verdict.rt:81:31
 enum-told-9 : tie.Need-enum-told-9
 enum-told-9 c = search needs
 
--- src/verdict.rt:81:31
 bw-requires : tie.Need-bw-requires
 bw-requires c κs = search needs
 
--- src/verdict.rt:81:21
 of-number-requires-3 : tie.Need-of-number-requires-3
 of-number-requires-3 c κs = search needs
 
--- src/verdict.rt:82:33
 enum-told-10 : tie.Need-enum-told-10
 enum-told-10 c = search needs
 
--- src/verdict.rt:82:33
 bw-requires-2 : tie.Need-bw-requires-2
 bw-requires-2 c κs = search needs
 
--- src/verdict.rt:82:23
 of-number-requires-4 : tie.Need-of-number-requires-4
 of-number-requires-4 c κs = search needs
 
--- src/verdict.rt:83:31
 enum-told-11 : tie.Need-enum-told-11
 enum-told-11 c = search needs
 
--- src/verdict.rt:83:31
 bwof-requires : tie.Need-bwof-requires
 bwof-requires c κs = search needs
 
--- src/verdict.rt:83:23
 of-band-requires : tie.Need-of-band-requires
 of-band-requires c κs = search needs
 
--- src/verdict.rt:84:31
 enum-told-12 : tie.Need-enum-told-12
 enum-told-12 c = search needs
 
--- src/verdict.rt:84:31
 cf-requires : tie.Need-cf-requires
 cf-requires c κs = search needs
 
--- src/verdict.rt:84:21
 of-number-requires-5 : tie.Need-of-number-requires-5
 of-number-requires-5 c κs = search needs
 
--- src/verdict.rt:85:32
 enum-told-13 : tie.Need-enum-told-13
 enum-told-13 c = search needs
 
--- src/verdict.rt:85:32
 dbfs-requires : tie.Need-dbfs-requires
 dbfs-requires c κs = search needs
 
--- src/verdict.rt:85:23
 of-level-requires : tie.Need-of-level-requires
 of-level-requires c κs = search needs
 
--- src/verdict.rt:86:32
 enum-told-14 : tie.Need-enum-told-14
 enum-told-14 c = search needs
 
--- src/verdict.rt:86:32
 dbtg-requires : tie.Need-dbtg-requires
 dbtg-requires c κs = search needs
 
--- src/verdict.rt:86:23
 of-level-requires-2 : tie.Need-of-level-requires-2
 of-level-requires-2 c κs = search needs
 
--- src/verdict.rt:87:31
 enum-told-15 : tie.Need-enum-told-15
 enum-told-15 c = search needs
 
--- src/verdict.rt:87:31
 ffs-requires : tie.Need-ffs-requires
 ffs-requires c κs = search needs
 
--- src/verdict.rt:87:22
 of-level-requires-3 : tie.Need-of-level-requires-3
 of-level-requires-3 c κs = search needs
 
--- src/verdict.rt:88:23
 enum-told-16 : tie.Need-enum-told-16
 enum-told-16 c = search needs
 
--- src/verdict.rt:88:23
 giqp-requires : tie.Need-giqp-requires
 giqp-requires c κs = search needs
 
--- src/verdict.rt:89:22
 enum-told-17 : tie.Need-enum-told-17
 enum-told-17 c = search needs
 
--- src/verdict.rt:89:22
 gcf-requires : tie.Need-gcf-requires
 gcf-requires c κs = search needs
 
--- src/verdict.rt:90:22
 enum-told-18 : tie.Need-enum-told-18
 enum-told-18 c = search needs
 
--- src/verdict.rt:90:22
 grg-requires : tie.Need-grg-requires
 grg-requires c κs = search needs
 
--- src/verdict.rt:91:33
 enum-told-19 : tie.Need-enum-told-19
 enum-told-19 c = search needs
 
--- src/verdict.rt:91:33
 sofh-requires : tie.Need-sofh-requires
 sofh-requires c κs = search needs
 
--- src/verdict.rt:91:23
 of-number-requires-6 : tie.Need-of-number-requires-6
 of-number-requires-6 c κs = search needs
 
--- src/verdict.rt:92:23
 enum-told-20 : tie.Need-enum-told-20
 enum-told-20 c = search needs
 
--- src/verdict.rt:92:23
 empty-requires : tie.Need-empty-requires
 empty-requires c κs = search needs
 
--- src/verdict.rt:93:23
 enum-told-21 : tie.Need-enum-told-21
 enum-told-21 c = search needs
 
--- src/verdict.rt:93:23
 empty-requires-2 : tie.Need-empty-requires-2
 empty-requires-2 c κs = search needs
 
--- src/verdict.rt:94:31
 enum-told-22 : tie.Need-enum-told-22
 enum-told-22 c = search needs
 
--- src/verdict.rt:94:31
 text-requires : tie.Need-text-requires
 text-requires c κs = search needs
 
--- src/verdict.rt:94:23
 of-text-requires : tie.Need-of-text-requires
 of-text-requires c κs = search needs
 
--- src/verdict.rt:95:26
 enum-told-23 : tie.Need-enum-told-23
 enum-told-23 c = search needs
 
--- src/verdict.rt:69:1
 returns : tie.Need-returns
 unfolding verdict
 returns c = rw (c .before .before .enum-told .given .1) (c .of-data .ensures ∙ ap seen (c .before .ssnc .ensures))
 
--- src/verdict.rt:69:1
 returns-2 : tie.Need-returns-2
 unfolding verdict
 returns-2 c = rw (c .before .before .enum-told2 .given .1) (c .of-data2 .ensures ∙ ap seen (c .before .ssnr .ensures))
 
--- src/verdict.rt:69:1
 returns-3 : tie.Need-returns-3
 unfolding verdict
 returns-3 c = rw (c .before .before .enum-told3 .given .1) (c .of-data3 .ensures ∙ ap seen (c .before .sfnc .ensures))
 
--- src/verdict.rt:69:1
 returns-4 : tie.Need-returns-4
 unfolding verdict
 returns-4 c = rw (c .before .before .enum-told4 .given .1) (c .of-data4 .ensures ∙ ap seen (c .before .sfnr .ensures))
 
--- src/verdict.rt:69:1
 returns-5 : tie.Need-returns-5
 unfolding verdict
 returns-5 c = rw (c .before .before .enum-told5 .given .1) (c .of-data5 .ensures ∙ ap seen (c .before .gsnc .ensures))
 
--- src/verdict.rt:69:1
 returns-6 : tie.Need-returns-6
 unfolding verdict
 returns-6 c = rw (c .before .before .enum-told6 .given .1) (c .of-data6 .ensures ∙ ap seen (c .before .gfnc .ensures))
 
--- src/verdict.rt:69:1
 returns-7 : tie.Need-returns-7
 unfolding verdict
 returns-7 c = rw (c .before .before .enum-told7 .given .1) (c .of-number .ensures ∙ ap seen (c .before .siqp .ensures))
 
--- src/verdict.rt:69:1
 returns-8 : tie.Need-returns-8
 unfolding verdict
 returns-8 c = rw (c .before .before .enum-told8 .given .1) (c .of-number2 .ensures ∙ ap seen (c .before .sr .ensures))
 
--- src/verdict.rt:69:1
 returns-9 : tie.Need-returns-9
 unfolding verdict
 returns-9 c = rw (c .before .before .enum-told9 .given .1) (c .of-number3 .ensures ∙ ap seen (c .before .bw .ensures))
 
--- src/verdict.rt:69:1
 returns-10 : tie.Need-returns-10
 unfolding verdict
 returns-10 c = rw (c .before .before .enum-told10 .given .1) (c .of-number4 .ensures ∙ ap seen (c .before .bw2 .ensures))
 
--- src/verdict.rt:69:1
 returns-11 : tie.Need-returns-11
 unfolding verdict
 returns-11 c = rw (c .before .before .enum-told11 .given .1) (c .of-band .ensures ∙ ap seen (c .before .bwof .ensures))
 
--- src/verdict.rt:69:1
 returns-12 : tie.Need-returns-12
 unfolding verdict
 returns-12 c = rw (c .before .before .enum-told12 .given .1) (c .of-number5 .ensures ∙ ap seen (c .before .cf .ensures))
 
--- src/verdict.rt:69:1
 returns-13 : tie.Need-returns-13
 unfolding verdict
 returns-13 c = rw (c .before .before .enum-told13 .given .1) (c .of-level .ensures ∙ ap seen (c .before .dbfs .ensures))
 
--- src/verdict.rt:69:1
 returns-14 : tie.Need-returns-14
 unfolding verdict
 returns-14 c = rw (c .before .before .enum-told14 .given .1) (c .of-level2 .ensures ∙ ap seen (c .before .dbtg .ensures))
 
--- src/verdict.rt:69:1
 returns-15 : tie.Need-returns-15
 unfolding verdict
 returns-15 c = rw (c .before .before .enum-told15 .given .1) (c .of-level3 .ensures ∙ ap seen (c .before .ffs .ensures))
 
--- src/verdict.rt:69:1
 returns-16 : tie.Need-returns-16
 unfolding verdict
 returns-16 c = rw (c .before .enum-told16 .given .1) (seen-read (c .giqp .ensures))
 
--- src/verdict.rt:69:1
 returns-17 : tie.Need-returns-17
 unfolding verdict
 returns-17 c = rw (c .before .enum-told17 .given .1) (seen-read (c .gcf .ensures))
 
--- src/verdict.rt:69:1
 returns-18 : tie.Need-returns-18
 unfolding verdict
 returns-18 c = rw (c .before .enum-told18 .given .1) (seen-read (c .grg .ensures))
 
--- src/verdict.rt:69:1
 returns-19 : tie.Need-returns-19
 unfolding verdict
 returns-19 c = rw (c .before .before .enum-told19 .given .1) (c .of-number6 .ensures ∙ ap seen (c .before .sofh .ensures))
 
--- src/verdict.rt:69:1
 returns-20 : tie.Need-returns-20
 unfolding verdict
 returns-20 c = rw (c .before .enum-told20 .given .1) (c .empty .ensures)
 
--- src/verdict.rt:69:1
 returns-21 : tie.Need-returns-21
 unfolding verdict
 returns-21 c = rw (c .before .enum-told21 .given .1) (c .empty2 .ensures)
 
--- src/verdict.rt:69:1
 returns-22 : tie.Need-returns-22
 unfolding verdict
 returns-22 c = rw (c .before .before .enum-told22 .given .1) (c .of-text .ensures ∙ ap seen (c .before .text .ensures))
 
--- src/verdict.rt:69:1
 returns-23 : tie.Need-returns-23
 unfolding verdict
 returns-23 c = rw (c .enum-told23 .given .1)
