@@ -1,0 +1,44 @@
+use mathlib.Core.Path.{_≡_, ap, _∙_}
+use Rattle.body.specs.Numbers.{sr}
+use Rattle.state.specs.State.{withRate}
+use Rattle.effect.specs.Says.{judged}
+use Rattle.effect.specs.Effect.{held, effect}
+use Rattle.effect.proofs.Laws.{met-took}
+use borrow.Author.Needs.{needs}
+use Rattle.effect.proofs.take.sr.Statement.{statement}
+use Rattle.effect.proofs.take.sr.Tie as tie
+use Rattle.effect.proofs.take.sr.Reads as reads
+use Rattle.effect.proofs.take.sr.Lts as lts
+use Rattle.body.proofs.number.sr.Reads as sr-reads
+use Rattle.effect.proofs.take.met.Reads as met-reads
+use Rattle.effect.proofs.value.held.Reads as held-reads
+use Rattle.effect.proofs.value.of_number.Reads as of-number-reads
+
+-- src/take.rt:44:9
+sr-requires : tie.Need-sr-requires
+sr-requires c κs = search needs
+
+-- src/take.rt:45:9
+held-requires : tie.Need-held-requires
+held-requires c κs = search needs
+
+-- src/take.rt:48:9
+of-number-requires : tie.Need-of-number-requires
+of-number-requires c κs = search needs
+
+-- src/take.rt:48:5
+met-requires : tie.Need-met-requires
+met-requires c κs = search needs
+
+-- src/take.rt:41:1
+returns : tie.Need-returns
+unfolding effect
+returns c =
+    let a = c .before .before .before .before .before .args in
+    let e = c .before .before .before .sr .ensures in
+    met-took (sr (a .order) (a .body .now)) (withRate (a .was) (held (sr (a .order) (a .body .now)))) (c .met .ensures)
+    (c .before .of-number .ensures ∙ ap judged e)
+    (ap (withRate (a .was)) (c .before .before .held .ensures ∙ ap held e))
+
+pub sr-spec : {M : Type 1} → statement M
+sr-spec = tie.close (tie.spec sr-requires held-requires of-number-requires met-requires returns)

@@ -1,0 +1,52 @@
+-- When a data chunk is ready, and what it shows.
+use Prim.Native.Nat.{ℕ}
+use mathlib.Core.Bool.{Bool, true, false}
+use lib.Dec.{eqb, ltb}
+use Rattle.num.specs.Answer.{Answer, gives, refuses}
+use Rattle.num.specs.Choice.{pick}
+use Rattle.body.specs.Groups.{noHertz, noGains}
+use Rattle.body.specs.declared.data.Data.{Data}
+use Rattle.body.specs.declared.group.GroupPacking.{GroupPacking}
+use Rattle.body.specs.declared.group.GroupHertz.{GroupHertz}
+use Rattle.body.specs.declared.group.GroupGains.{GroupGains}
+use Rattle.cover.specs.Cover.{groupCovers}
+use Rattle.state.specs.State.{emptied, withFrequencies, withGains}
+use Rattle.state.specs.declared.State.{State}
+use Rattle.effect.specs.Says.{Says, ok, unknown, bad, waits, ready}
+
+-- a malformed chunk has its number; a well-formed one waits for the first of packing, sample rate and float full scale that
+-- is lacking, and is ready where none is
+abbrev pub dataSays : Answer Data → Bool → Bool → Bool → Says
+dataSays (refuses n) packed rated scaled = bad n
+dataSays (gives d) packed rated scaled =
+    pick packed (pick rated (pick scaled (ready d) (waits 23 (d .time))) (waits 22 (d .time))) (waits 21 (d .time))
+
+-- a group chunk that lacks nothing has to cover its pairs as well: number 16
+abbrev pub covering : GroupPacking → Says → Says
+covering g ok = ok
+covering g unknown = unknown
+covering g (bad n) = bad n
+covering g (waits n t) = waits n t
+covering g (ready d) = pick (groupCovers (d .samples) (g .n) (g .increment) (g .offsets)) (ready d) (bad 16)
+
+-- nothing is shown
+abbrev pub noState : State
+noState = emptied false
+
+-- the chunk is data, and ready
+abbrev pub isReady : Says → Bool
+isReady ok = false
+isReady unknown = false
+isReady (bad n) = false
+isReady (waits n t) = false
+isReady (ready d) = true
+
+-- in a group chunk, frequencies or gains of another count than the packing's are shown as absent
+abbrev pub hertzOf : ℕ → GroupHertz → GroupHertz
+hertzOf n h = pick (eqb (h .n) n) h noHertz
+
+abbrev pub gainsOf : ℕ → GroupGains → GroupGains
+gainsOf n g = pick (eqb (g .n) n) g noGains
+
+abbrev pub inGroup : State → State
+inGroup s = withGains (withFrequencies s (hertzOf (s .group .n) (s .frequencies))) (gainsOf (s .group .n) (s .gains))

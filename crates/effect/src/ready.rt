@@ -1,0 +1,137 @@
+// Data chunks: whether they are ready, and what they show.
+ghost use mathlib.Core.Path.{_≡_};
+ghost use lib.Dec.{ltb};
+ghost use Rattle.body.specs.Samples.{dataSaid};
+ghost use Rattle.effect.specs.Says.{verdictSaid};
+ghost use Rattle.effect.specs.Ready.{dataSays, covering, isReady, hertzOf, gainsOf, inGroup};
+ghost use Rattle.effect.specs.Effect.{timed, single, grouped};
+ghost use Rattle.effect.specs.Took.{Took};
+use body::data::DataRead;
+use body::group::GroupGains;
+use body::group::GroupHertz;
+use body::group::GroupPacking;
+use crate::Lack;
+use crate::Taken;
+use crate::Verdict;
+use state::State;
+
+// The first lack decides.
+fn verdict_of(read: DataRead, packed: bool, rated: bool, scaled: bool) -> Verdict
+    ensures { λ r. ⌜ verdictSaid r ≡ dataSays (dataSaid read) packed rated scaled ⌝ }
+{
+    match read {
+        DataRead::Malformed(f) => Verdict::Malformed(f),
+        DataRead::Is(d) => {
+            if !packed {
+                return Verdict::Waits(Lack::Packing, d.time);
+            }
+            if !rated {
+                return Verdict::Waits(Lack::Rate, d.time);
+            }
+            if !scaled {
+                return Verdict::Waits(Lack::Scale, d.time);
+            }
+            Verdict::Ready(d)
+        }
+    }
+}
+
+// A group chunk that lacks nothing has to cover its pairs as well.
+fn covering(g: GroupPacking, verdict: Verdict) -> Verdict
+    ensures { λ r. ⌜ verdictSaid r ≡ covering g (verdictSaid verdict) ⌝ }
+{
+    match verdict {
+        Verdict::Ready(d) => {
+            let offsets = g.offsets;
+            if cover::covers(d.samples, g.n, g.increment as usize, offsets) {
+                Verdict::Ready(d)
+            } else {
+                Verdict::NotCovered
+            }
+        }
+        Verdict::Good => Verdict::Good,
+        Verdict::Unknown => Verdict::Unknown,
+        Verdict::Malformed(f) => Verdict::Malformed(f),
+        Verdict::NotCovered => Verdict::NotCovered,
+        Verdict::Waits(l, t) => Verdict::Waits(l, t),
+    }
+}
+
+fn is_ready(verdict: Verdict) -> bool
+    ensures { λ r. ⌜ r ≡ isReady (verdictSaid verdict) ⌝ }
+{
+    match verdict {
+        Verdict::Ready(_) => true,
+        Verdict::Good => false,
+        Verdict::Unknown => false,
+        Verdict::Malformed(_) => false,
+        Verdict::NotCovered => false,
+        Verdict::Waits(_, _) => false,
+    }
+}
+
+fn hertz_of(n: usize, h: GroupHertz) -> GroupHertz
+    ensures { λ r. ⌜ r ≡ hertzOf n h ⌝ }
+{
+    if h.n == n { h } else { body::group::no_hertz() }
+}
+
+fn gains_of(n: usize, g: GroupGains) -> GroupGains
+    ensures { λ r. ⌜ r ≡ gainsOf n g ⌝ }
+{
+    if g.n == n { g } else { body::group::no_gains() }
+}
+
+// The state as a group chunk shows it.
+fn in_group(was: State) -> State
+    ensures { λ r. ⌜ r ≡ inGroup was ⌝ }
+{
+    let group = was.group;
+    let frequencies = was.frequencies;
+    let gains = was.gains;
+    let mut shown = was;
+    let h = hertz_of(group.n, frequencies);
+    let g = gains_of(group.n, gains);
+    shown.frequencies = h;
+    shown.gains = g;
+    shown
+}
+
+// A ready chunk shows a state and clears the start mark; any other shows nothing and sets it.
+fn timed(verdict: Verdict, shows: State, was: State) -> Taken
+    ensures { λ r. ⌜ Took r (timed (verdictSaid verdict) shows was) ⌝ }
+{
+    let ready = is_ready(verdict);
+    let mut next = was;
+    next.mark = !ready;
+    if ready {
+        return Taken {
+            verdict,
+            shown: shows,
+            state: next,
+        };
+    }
+    Taken {
+        verdict,
+        shown: State::empty(false),
+        state: next,
+    }
+}
+
+// A data chunk of one channel: whether it has the packing and the float full scale, where it needs them.
+pub(crate) fn single(read: DataRead, packed: bool, scaled: bool, was: State) -> Taken
+    ensures { λ r. ⌜ Took r (single (dataSaid read) packed scaled was) ⌝ }
+{
+    let rate = was.rate;
+    timed(verdict_of(read, packed, rate.present, scaled), was, was)
+}
+
+// A data chunk of a group: whether it has the float full scale, where it needs it.
+pub(crate) fn grouped(read: DataRead, scaled: bool, was: State) -> Taken
+    ensures { λ r. ⌜ Took r (grouped (dataSaid read) scaled was) ⌝ }
+{
+    let rate = was.rate;
+    let group = was.group;
+    let verdict = verdict_of(read, 0 < group.n, rate.present, scaled);
+    timed(covering(group, verdict), in_group(was), was)
+}

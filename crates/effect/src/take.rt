@@ -1,0 +1,197 @@
+// The effect of a chunk, by its kind.
+ghost use mathlib.Core.Path.{_≡_};
+ghost use Rattle.effect.specs.Effect.{effect};
+ghost use Rattle.effect.specs.Ready.{noState};
+ghost use Rattle.effect.specs.Took.{Took};
+use body::data;
+use body::group;
+use body::kind::Kind;
+use body::level;
+use body::number;
+use body::plain;
+use crate::Taken;
+use crate::Verdict;
+use crate::ready::grouped;
+use crate::ready::single;
+use crate::value;
+use num::Order;
+use state::State;
+
+// A chunk that is no data shows nothing.
+fn met(verdict: Verdict, next: State) -> Taken
+    ensures { λ r. ⌜ (r .verdict ≡ verdict) × (r .shown ≡ noState) × (r .state ≡ next) ⌝ }
+{
+    Taken {
+        verdict,
+        shown: State::empty(false),
+        state: next,
+    }
+}
+
+fn siqp(order: Order, body: &[u8], was: State) -> Taken
+    ensures { λ r. ⌜ Took r (effect order Kind.SIQP (now (body .entry)) was) ⌝ }
+{
+    let read = number::siqp(order, body);
+    let value = value::held(read);
+    let mut next = was;
+    next.packing = value;
+    met(value::of_number(read), next)
+}
+
+fn sr(order: Order, body: &[u8], was: State) -> Taken
+    ensures { λ r. ⌜ Took r (effect order Kind.SR (now (body .entry)) was) ⌝ }
+{
+    let read = number::sr(order, body);
+    let value = value::held(read);
+    let mut next = was;
+    next.rate = value;
+    met(value::of_number(read), next)
+}
+
+fn bw(order: Order, body: &[u8], was: State) -> Taken
+    ensures { λ r. ⌜ Took r (effect order Kind.BW (now (body .entry)) was) ⌝ }
+{
+    let read = number::bw(order, body);
+    let value = value::centred(read);
+    let mut next = was;
+    next.band = value;
+    met(value::of_number(read), next)
+}
+
+fn bwof(order: Order, body: &[u8], was: State) -> Taken
+    ensures { λ r. ⌜ Took r (effect order Kind.BWOF (now (body .entry)) was) ⌝ }
+{
+    let read = number::bwof(order, body);
+    let value = value::banded(read);
+    let mut next = was;
+    next.band = value;
+    met(value::of_band(read), next)
+}
+
+fn gcbw(order: Order, body: &[u8], was: State) -> Taken
+    ensures { λ r. ⌜ Took r (effect order Kind.GCBW (now (body .entry)) was) ⌝ }
+{
+    let read = number::bw(order, body);
+    let value = value::held(read);
+    let mut next = was;
+    next.group_band = value;
+    met(value::of_number(read), next)
+}
+
+fn cf(order: Order, body: &[u8], was: State) -> Taken
+    ensures { λ r. ⌜ Took r (effect order Kind.CF (now (body .entry)) was) ⌝ }
+{
+    let read = number::cf(order, body);
+    let value = value::held(read);
+    let mut next = was;
+    next.centre = value;
+    met(value::of_number(read), next)
+}
+
+fn dbfs(order: Order, body: &[u8], was: State) -> Taken
+    ensures { λ r. ⌜ Took r (effect order Kind.DBFS (now (body .entry)) was) ⌝ }
+{
+    let read = level::dbfs(order, body);
+    let value = value::levelled(read);
+    let mut next = was;
+    next.full_scale = value;
+    met(value::of_level(read), next)
+}
+
+fn dbtg(order: Order, body: &[u8], was: State) -> Taken
+    ensures { λ r. ⌜ Took r (effect order Kind.DBTG (now (body .entry)) was) ⌝ }
+{
+    let read = level::dbtg(order, body);
+    let value = value::levelled(read);
+    let mut next = was;
+    next.total_gain = value;
+    met(value::of_level(read), next)
+}
+
+fn ffs(order: Order, body: &[u8], was: State) -> Taken
+    ensures { λ r. ⌜ Took r (effect order Kind.FFS (now (body .entry)) was) ⌝ }
+{
+    let read = level::ffs(order, body);
+    let value = value::levelled(read);
+    let mut next = was;
+    next.float_scale = value;
+    met(value::of_level(read), next)
+}
+
+fn giqp(order: Order, body: &[u8], was: State) -> Taken
+    ensures { λ r. ⌜ Took r (effect order Kind.GIQP (now (body .entry)) was) ⌝ }
+{
+    let read = group::giqp(order, body);
+    let value = read.packing;
+    let checked = read.checked;
+    let mut next = was;
+    next.group = value;
+    met(value::of_checked(checked), next)
+}
+
+fn gcf(order: Order, body: &[u8], was: State) -> Taken
+    ensures { λ r. ⌜ Took r (effect order Kind.GCF (now (body .entry)) was) ⌝ }
+{
+    let read = group::gcf(order, body);
+    let value = read.hertz;
+    let checked = read.checked;
+    let mut next = was;
+    next.frequencies = value;
+    met(value::of_checked(checked), next)
+}
+
+fn grg(order: Order, body: &[u8], was: State) -> Taken
+    ensures { λ r. ⌜ Took r (effect order Kind.GRG (now (body .entry)) was) ⌝ }
+{
+    let read = group::grg(order, body);
+    let value = read.gains;
+    let checked = read.checked;
+    let mut next = was;
+    next.gains = value;
+    met(value::of_checked(checked), next)
+}
+
+// A well-formed IQDC sets the start mark.
+fn iqdc(order: Order, body: &[u8], was: State) -> Taken
+    ensures { λ r. ⌜ Took r (effect order Kind.IQDC (now (body .entry)) was) ⌝ }
+{
+    let checked = plain::empty(body);
+    let mut next = was;
+    next.mark = value::marked(checked, was.mark);
+    met(value::of_checked(checked), next)
+}
+
+// What a chunk says, shows and leaves.
+pub fn take(order: Order, kind: Kind, body: &[u8], was: State) -> Taken
+    ensures { λ r. ⌜ Took r (effect order kind (now (body .entry)) was) ⌝ }
+{
+    let packing = was.packing;
+    let scale = was.float_scale;
+    let packed = packing.present;
+    let scaled = scale.present;
+    match kind {
+        Kind::SSNC => single(data::ssnc(order, body), packed, true, was),
+        Kind::SSNR => single(data::ssnr(order, body), true, true, was),
+        Kind::SFNC => single(data::sfnc(order, body), packed, scaled, was),
+        Kind::SFNR => single(data::sfnr(order, body), true, scaled, was),
+        Kind::GSNC => grouped(data::gsnc(order, body), true, was),
+        Kind::GFNC => grouped(data::gfnc(order, body), scaled, was),
+        Kind::SIQP => siqp(order, body, was),
+        Kind::SR => sr(order, body, was),
+        Kind::BW => bw(order, body, was),
+        Kind::GCBW => gcbw(order, body, was),
+        Kind::BWOF => bwof(order, body, was),
+        Kind::CF => cf(order, body, was),
+        Kind::DBFS => dbfs(order, body, was),
+        Kind::DBTG => dbtg(order, body, was),
+        Kind::FFS => ffs(order, body, was),
+        Kind::GIQP => giqp(order, body, was),
+        Kind::GCF => gcf(order, body, was),
+        Kind::GRG => grg(order, body, was),
+        Kind::SOFH => met(value::of_number(number::sofh(order, body)), was),
+        Kind::EOFH => met(value::of_checked(plain::empty(body)), was),
+        Kind::IQDC => iqdc(order, body, was),
+        Kind::TEXT => met(value::of_text(plain::text(order, body)), was),
+        Kind::Unknown => met(Verdict::Unknown, was),
+    }
+}

@@ -1,0 +1,151 @@
+// The values that chunks set, and the verdicts on chunks that are no data.
+ghost use mathlib.Core.Path.{_≡_};
+ghost use Rattle.body.specs.Fault.{checkedSaid};
+ghost use Rattle.body.specs.Levels.{levelSaid};
+ghost use Rattle.body.specs.Numbers.{numberSaid, bandSaid};
+ghost use Rattle.body.specs.Plain.{textSaid};
+ghost use Rattle.state.specs.State.{noBand};
+ghost use Rattle.effect.specs.Says.{verdictSaid, judged};
+ghost use Rattle.effect.specs.Effect.{held, centred, banded, amount, levelled, marked};
+use body::fault::Checked;
+use body::level::Level;
+use body::level::LevelRead;
+use body::number::BandRead;
+use body::number::Number;
+use body::plain::TextRead;
+use crate::Verdict;
+use state::BandHeld;
+use state::Held;
+use state::LevelHeld;
+
+pub(crate) fn held(read: Number) -> Held
+    ensures { λ r. ⌜ r ≡ held (numberSaid read) ⌝ }
+{
+    match read {
+        Number::Is(v) => Held {
+            present: true,
+            value: v,
+        },
+        Number::Malformed(_) => Held {
+            present: false,
+            value: 0,
+        },
+    }
+}
+
+fn no_band() -> BandHeld
+    ensures { λ r. ⌜ r ≡ noBand ⌝ }
+{
+    BandHeld {
+        present: false,
+        width: 0,
+        offset: 0,
+    }
+}
+
+// BW__ sets the offset to 0.
+pub(crate) fn centred(read: Number) -> BandHeld
+    ensures { λ r. ⌜ r ≡ centred (numberSaid read) ⌝ }
+{
+    match read {
+        Number::Is(v) => BandHeld {
+            present: true,
+            width: v,
+            offset: 0,
+        },
+        Number::Malformed(_) => no_band(),
+    }
+}
+
+pub(crate) fn banded(read: BandRead) -> BandHeld
+    ensures { λ r. ⌜ r ≡ banded (bandSaid read) ⌝ }
+{
+    match read {
+        BandRead::Spans(b) => BandHeld {
+            present: true,
+            width: b.width,
+            offset: b.offset,
+        },
+        BandRead::Faulty(_) => no_band(),
+    }
+}
+
+fn amount(level: Level) -> f32
+    ensures { λ r. ⌜ r ≡ amount level ⌝ }
+{
+    match level {
+        Level::FullScale(x) => x,
+        Level::TotalGain(x) => x,
+        Level::FloatFullScale(x) => x,
+    }
+}
+
+pub(crate) fn levelled(read: LevelRead) -> LevelHeld
+    ensures { λ r. ⌜ r ≡ levelled (levelSaid read) ⌝ }
+{
+    match read {
+        LevelRead::Is(level) => LevelHeld {
+            present: true,
+            value: amount(level),
+        },
+        LevelRead::Malformed(_) => LevelHeld {
+            present: false,
+            value: 0.0,
+        },
+    }
+}
+
+// A well-formed IQDC sets the start mark.
+pub(crate) fn marked(checked: Checked, mark: bool) -> bool
+    ensures { λ r. ⌜ r ≡ marked (checkedSaid checked tt) mark ⌝ }
+{
+    match checked {
+        Checked::Good => true,
+        Checked::Malformed(_) => mark,
+    }
+}
+
+pub(crate) fn of_number(read: Number) -> Verdict
+    ensures { λ r. ⌜ verdictSaid r ≡ judged (numberSaid read) ⌝ }
+{
+    match read {
+        Number::Is(_) => Verdict::Good,
+        Number::Malformed(f) => Verdict::Malformed(f),
+    }
+}
+
+pub(crate) fn of_band(read: BandRead) -> Verdict
+    ensures { λ r. ⌜ verdictSaid r ≡ judged (bandSaid read) ⌝ }
+{
+    match read {
+        BandRead::Spans(_) => Verdict::Good,
+        BandRead::Faulty(f) => Verdict::Malformed(f),
+    }
+}
+
+pub(crate) fn of_level(read: LevelRead) -> Verdict
+    ensures { λ r. ⌜ verdictSaid r ≡ judged (levelSaid read) ⌝ }
+{
+    match read {
+        LevelRead::Is(_) => Verdict::Good,
+        LevelRead::Malformed(f) => Verdict::Malformed(f),
+    }
+}
+
+pub(crate) fn of_text(read: TextRead) -> Verdict
+    ensures { λ r. ⌜ verdictSaid r ≡ judged (textSaid read) ⌝ }
+{
+    match read {
+        TextRead::Is(_) => Verdict::Good,
+        TextRead::Malformed(f) => Verdict::Malformed(f),
+    }
+}
+
+pub(crate) fn of_checked(read: Checked) -> Verdict
+    ensures { λ r. ⌜ verdictSaid r ≡ judged (checkedSaid read (tt {0})) ⌝ }
+{
+    match read {
+        Checked::Good => Verdict::Good,
+        Checked::Malformed(f) => Verdict::Malformed(f),
+    }
+}
