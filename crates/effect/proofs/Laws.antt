@@ -1,6 +1,10 @@
 -- Laws of effects.
-use mathlib.Core.Path.{_≡_, ap, _∙_}
+use mathlib.Core.Path.{_≡_, refl, ap, _∙_}
 use Rattle.num.specs.Answer.{Answer}
+use Rattle.body.specs.Fault.{checkedSaid}
+use Rattle.body.specs.Groups.{Read}
+use Rattle.body.specs.declared.fault.Checked.{Checked}
+use Rattle.body.specs.declared.fault.Checked.the-variants.{Good, Malformed}
 use Rattle.state.specs.declared.State.{State}
 use Rattle.effect.specs.Says.{verdictSaid, judged}
 use Rattle.effect.specs.Ready.{noState}
@@ -13,3 +17,11 @@ use Rattle.effect.specs.declared.Verdict.{Verdict}
 pub met-took : {A : Type 0} {r : Taken} {v : Verdict} {next : State} (a : Answer A) (n : State) →
     (r .verdict ≡ v) × (r .shown ≡ noState) × (r .state ≡ next) → verdictSaid v ≡ judged a → next ≡ n → Took r (met a n)
 met-took a n h e q = record { says = ap verdictSaid (h .0) ∙ e; shown = h .1; after = h .2 ∙ q }
+
+judged-checked : {A : Type 0} (k : Checked) (v : A) → judged (checkedSaid k (tt {0})) ≡ judged (checkedSaid k v)
+judged-checked Good v = refl
+judged-checked (Malformed f) v = refl
+
+-- a verdict that stands beside its value is what the rule says
+pub read-judged : {A : Type 0} {k : Checked} {v none : A} {rule : Answer A} → Read k v none rule → judged (checkedSaid k (tt {0})) ≡ judged rule
+read-judged {k = k} {v = v} h = judged-checked k v ∙ ap judged (h .said)

@@ -2,6 +2,7 @@
 mod ready;
 pub mod take;
 mod value;
+
 use body::data::Data;
 use body::fault::Fault;
 use state::State;

@@ -6,13 +6,13 @@ ghost use Rattle.effect.specs.Says.{verdictSaid};
 ghost use Rattle.effect.specs.Ready.{dataSays, covering, isReady, hertzOf, gainsOf, inGroup};
 ghost use Rattle.effect.specs.Effect.{timed, single, grouped};
 ghost use Rattle.effect.specs.Took.{Took};
+use crate::Lack;
+use crate::Taken;
+use crate::Verdict;
 use body::data::DataRead;
 use body::group::GroupGains;
 use body::group::GroupHertz;
 use body::group::GroupPacking;
-use crate::Lack;
-use crate::Taken;
-use crate::Verdict;
 use state::State;
 
 // The first lack decides.

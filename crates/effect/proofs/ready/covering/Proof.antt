@@ -1,77 +1,59 @@
-use mathlib.Core.Path.{_≡_, sym, _∙_}
-use borrow.Author.Tests.{eq-eqb, ne-eqb, not-true, not-false}
+-- Where nothing is lacking, the cover test decides; any other verdict stays.
+use mathlib.Core.Path.{_≡_}
 use mir.Syntax.{w64}
 use mir.Val.{toZ, ofZ}
 use borrow.Author.Needs.{needs}
 use Rattle.effect.proofs.ready.covering.Statement.{statement}
 use Rattle.effect.proofs.ready.covering.Tie as tie
-use Rattle.effect.proofs.ready.covering.Reads as reads
-use Rattle.effect.proofs.ready.covering.Lts as lts
-use Rattle.cover.proofs.covers.Reads as covers-reads
 
--- src/ready.rt:44:24
 enum-known-verdict : tie.Need-enum-known-verdict
 enum-known-verdict c = search needs
 
--- src/ready.rt:46:46
 cast-covers : tie.Need-cast-covers
 cast-covers c = search needs
 
--- src/ready.rt:46:16
 covers-requires : tie.Need-covers-requires
 covers-requires c κs = search needs
 
--- src/ready.rt:52:26
 enum-told : tie.Need-enum-told
 enum-told c = search needs
 
--- src/ready.rt:53:29
 enum-told-2 : tie.Need-enum-told-2
 enum-told-2 c = search needs
 
--- src/ready.rt:54:28
 enum-known-verdict-2 : tie.Need-enum-known-verdict-2
 enum-known-verdict-2 c = search needs
 
--- src/ready.rt:55:32
 enum-told-3 : tie.Need-enum-told-3
 enum-told-3 c = search needs
 
--- src/ready.rt:56:24
 enum-known-verdict-3 : tie.Need-enum-known-verdict-3
 enum-known-verdict-3 c = search needs
 
--- src/ready.rt:40:1
 returns : tie.Need-returns
 returns c =
     let k = c .before .before .before .before .before in
     let v = c .before .covers in
     rw (k .verdict .given .1, ← v .ensures, c .if1 .taken)
 
--- src/ready.rt:40:1
 returns-2 : tie.Need-returns-2
 returns-2 c =
     let k = c .before .before .before .before .before in
     let v = c .before .covers in
     rw (k .verdict .given .1, ← v .ensures, c .if1 .left)
 
--- src/ready.rt:40:1
 returns-3 : tie.Need-returns-3
 returns-3 c = search needs
 
--- src/ready.rt:40:1
 returns-4 : tie.Need-returns-4
 returns-4 c = search needs
 
--- src/ready.rt:40:1
 returns-5 : tie.Need-returns-5
 returns-5 c = rw (c .before .verdict2 .given .1)
 
--- src/ready.rt:40:1
 returns-6 : tie.Need-returns-6
 returns-6 c = search needs
 
--- src/ready.rt:40:1
 returns-7 : tie.Need-returns-7
 returns-7 c =
     let t = c .before .verdict3 .given .0 .1 .0 in

@@ -1,4 +1,5 @@
-use mathlib.Core.Path.{_≡_, ap, _∙_}
+-- The value that is put into the state is the one that was read, or its absence.
+use mathlib.Core.Path.{ap, _∙_}
 use Rattle.body.specs.Levels.{ffs}
 use Rattle.state.specs.State.{withFloatScale}
 use Rattle.effect.specs.Says.{judged}
@@ -7,30 +8,19 @@ use Rattle.effect.proofs.Laws.{met-took}
 use borrow.Author.Needs.{needs}
 use Rattle.effect.proofs.take.ffs.Statement.{statement}
 use Rattle.effect.proofs.take.ffs.Tie as tie
-use Rattle.effect.proofs.take.ffs.Reads as reads
-use Rattle.effect.proofs.take.ffs.Lts as lts
-use Rattle.body.proofs.level.ffs.Reads as ffs-reads
-use Rattle.effect.proofs.take.met.Reads as met-reads
-use Rattle.effect.proofs.value.levelled.Reads as levelled-reads
-use Rattle.effect.proofs.value.of_level.Reads as of-level-reads
 
--- src/take.rt:114:9
 ffs-requires : tie.Need-ffs-requires
 ffs-requires c κs = search needs
 
--- src/take.rt:115:9
 levelled-requires : tie.Need-levelled-requires
 levelled-requires c κs = search needs
 
--- src/take.rt:118:9
 of-level-requires : tie.Need-of-level-requires
 of-level-requires c κs = search needs
 
--- src/take.rt:118:5
 met-requires : tie.Need-met-requires
 met-requires c κs = search needs
 
--- src/take.rt:111:1
 returns : tie.Need-returns
 unfolding effect
 returns c =

@@ -1,32 +1,35 @@
+-- The mark is set where the chunk is well-formed.
+use mathlib.Core.Path.{ap, _∙_}
+use Rattle.num.specs.Answer.{Answer}
+use Rattle.body.specs.Plain.{empty}
+use Rattle.state.specs.State.{withMark}
+use Rattle.effect.specs.Says.{judged}
+use Rattle.effect.specs.Effect.{marked, effect}
+use Rattle.effect.proofs.Laws.{met-took}
 use borrow.Author.Needs.{needs}
 use Rattle.effect.proofs.take.iqdc.Statement.{statement}
 use Rattle.effect.proofs.take.iqdc.Tie as tie
-use Rattle.effect.proofs.take.iqdc.Reads as reads
-use Rattle.effect.proofs.take.iqdc.Lts as lts
-use Rattle.body.proofs.plain.empty.Reads as empty-reads
-use Rattle.effect.proofs.take.met.Reads as met-reads
-use Rattle.effect.proofs.value.marked.Reads as marked-reads
-use Rattle.effect.proofs.value.of_checked.Reads as of-checked-reads
 
--- src/take.rt:158:9
 empty-requires : tie.Need-empty-requires
 empty-requires c κs = search needs
 
--- src/take.rt:160:5
 marked-requires : tie.Need-marked-requires
 marked-requires c κs = search needs
 
--- src/take.rt:161:9
 of-checked-requires : tie.Need-of-checked-requires
 of-checked-requires c κs = search needs
 
--- src/take.rt:161:5
 met-requires : tie.Need-met-requires
 met-requires c κs = search needs
 
--- src/take.rt:155:1
 returns : tie.Need-returns
-returns c = ?
+unfolding effect
+returns c =
+    let a = c .before .before .before .before .before .args in
+    let e = c .before .before .before .empty .ensures in
+    met-took (empty (a .body .now)) (withMark (a .was) (marked (empty (a .body .now)) (a .was .mark))) (c .met .ensures)
+    (c .before .of-checked .ensures ∙ ap judged e)
+    (ap (withMark (a .was)) (c .before .before .marked .ensures ∙ ap (λ (x : Answer (Unit {0})). marked x (a .was .mark)) e))
 
 pub iqdc-spec : {M : Type 1} → statement M
 iqdc-spec =

@@ -1,4 +1,5 @@
-use mathlib.Core.Path.{_≡_, ap, _∙_}
+-- The value that is put into the state is the one that was read, or its absence.
+use mathlib.Core.Path.{ap, _∙_}
 use Rattle.body.specs.Numbers.{sr}
 use Rattle.state.specs.State.{withRate}
 use Rattle.effect.specs.Says.{judged}
@@ -7,30 +8,19 @@ use Rattle.effect.proofs.Laws.{met-took}
 use borrow.Author.Needs.{needs}
 use Rattle.effect.proofs.take.sr.Statement.{statement}
 use Rattle.effect.proofs.take.sr.Tie as tie
-use Rattle.effect.proofs.take.sr.Reads as reads
-use Rattle.effect.proofs.take.sr.Lts as lts
-use Rattle.body.proofs.number.sr.Reads as sr-reads
-use Rattle.effect.proofs.take.met.Reads as met-reads
-use Rattle.effect.proofs.value.held.Reads as held-reads
-use Rattle.effect.proofs.value.of_number.Reads as of-number-reads
 
--- src/take.rt:44:9
 sr-requires : tie.Need-sr-requires
 sr-requires c κs = search needs
 
--- src/take.rt:45:9
 held-requires : tie.Need-held-requires
 held-requires c κs = search needs
 
--- src/take.rt:48:9
 of-number-requires : tie.Need-of-number-requires
 of-number-requires c κs = search needs
 
--- src/take.rt:48:5
 met-requires : tie.Need-met-requires
 met-requires c κs = search needs
 
--- src/take.rt:41:1
 returns : tie.Need-returns
 unfolding effect
 returns c =

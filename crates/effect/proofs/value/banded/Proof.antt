@@ -1,26 +1,20 @@
+-- The bandwidth and offset that were read, or their absence.
 use mathlib.Core.Path.{_≡_}
 use mir.Syntax.{w64}
 use mir.Val.{toZ, ofZ}
 use borrow.Author.Needs.{needs}
 use Rattle.effect.proofs.value.banded.Statement.{statement}
 use Rattle.effect.proofs.value.banded.Tie as tie
-use Rattle.effect.proofs.value.banded.Reads as reads
-use Rattle.effect.proofs.value.banded.Lts as lts
-use Rattle.effect.proofs.value.no_band.Reads as no-band-reads
 
--- src/value.rt:64:25
 enum-known-read : tie.Need-enum-known-read
 enum-known-read c = search needs
 
--- src/value.rt:69:32
 enum-told : tie.Need-enum-told
 enum-told c = search needs
 
--- src/value.rt:69:32
 no-band-requires : tie.Need-no-band-requires
 no-band-requires c κs = search needs
 
--- src/value.rt:60:1
 returns : tie.Need-returns
 returns c =
     let b = c .before .before .read .given .0 .0 in
@@ -28,7 +22,6 @@ returns c =
     let offset : toZ w64 (ofZ w64 (b .offset)) ≡ b .offset = search needs in
     rw (width, offset, c .before .before .read .given .1)
 
--- src/value.rt:60:1
 returns-2 : tie.Need-returns-2
 returns-2 c = search needs
 

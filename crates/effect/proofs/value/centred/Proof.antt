@@ -1,33 +1,26 @@
+-- The bandwidth that was read with an offset of 0, or its absence.
 use mathlib.Core.Path.{_≡_}
 use mir.Syntax.{w64}
 use mir.Val.{toZ, ofZ}
 use borrow.Author.Needs.{needs}
 use Rattle.effect.proofs.value.centred.Statement.{statement}
 use Rattle.effect.proofs.value.centred.Tie as tie
-use Rattle.effect.proofs.value.centred.Reads as reads
-use Rattle.effect.proofs.value.centred.Lts as lts
-use Rattle.effect.proofs.value.no_band.Reads as no-band-reads
 
--- src/value.rt:51:20
 enum-known-read : tie.Need-enum-known-read
 enum-known-read c = search needs
 
--- src/value.rt:56:33
 enum-told : tie.Need-enum-told
 enum-told c = search needs
 
--- src/value.rt:56:33
 no-band-requires : tie.Need-no-band-requires
 no-band-requires c κs = search needs
 
--- src/value.rt:47:1
 returns : tie.Need-returns
 returns c =
     let v = c .before .read .given .0 .0 in
     let back : toZ w64 (ofZ w64 v) ≡ v = search needs in
     rw (back, c .before .read .given .1)
 
--- src/value.rt:47:1
 returns-2 : tie.Need-returns-2
 returns-2 c = search needs
 

@@ -1,28 +1,23 @@
+-- The number that was read, or its absence.
 use mathlib.Core.Path.{_≡_}
 use mir.Syntax.{w64}
 use mir.Val.{toZ, ofZ}
 use borrow.Author.Needs.{needs}
 use Rattle.effect.proofs.value.held.Statement.{statement}
 use Rattle.effect.proofs.value.held.Tie as tie
-use Rattle.effect.proofs.value.held.Reads as reads
-use Rattle.effect.proofs.value.held.Lts as lts
 
--- src/value.rt:25:20
 enum-known-read : tie.Need-enum-known-read
 enum-known-read c = search needs
 
--- src/value.rt:29:33
 enum-told : tie.Need-enum-told
 enum-told c = search needs
 
--- src/value.rt:21:1
 returns : tie.Need-returns
 returns c =
     let v = c .before .read .given .0 .0 in
     let back : toZ w64 (ofZ w64 v) ≡ v = search needs in
     rw (back, c .before .read .given .1)
 
--- src/value.rt:21:1
 returns-2 : tie.Need-returns-2
 returns-2 c = rw (c .enum-told .given .1)
 

@@ -1,27 +1,20 @@
+-- The level that was read, or its absence.
 use borrow.Author.Needs.{needs}
 use Rattle.effect.proofs.value.levelled.Statement.{statement}
 use Rattle.effect.proofs.value.levelled.Tie as tie
-use Rattle.effect.proofs.value.levelled.Reads as reads
-use Rattle.effect.proofs.value.levelled.Lts as lts
-use Rattle.effect.proofs.value.amount.Reads as amount-reads
 
--- src/value.rt:87:23
 enum-known-read : tie.Need-enum-known-read
 enum-known-read c = search needs
 
--- src/value.rt:89:20
 amount-requires : tie.Need-amount-requires
 amount-requires c κs = search needs
 
--- src/value.rt:91:36
 enum-told : tie.Need-enum-told
 enum-told c = search needs
 
--- src/value.rt:83:1
 returns : tie.Need-returns
 returns c = rw (c .amount .ensures, c .before .before .read .given .1)
 
--- src/value.rt:83:1
 returns-2 : tie.Need-returns-2
 returns-2 c = rw (c .enum-told .given .1)
 
