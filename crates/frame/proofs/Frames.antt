@@ -4,8 +4,8 @@ use mathlib.Core.Path.{_≡_, refl, ap, sym, _∙_}
 use mathlib.Core.List.{List, [], _∷_, _++_, append-assoc}
 use mathlib.Core.Bool.{Bool, true, false}
 use native.Mathlib.Omega.{arith}
-use lib.ListN.{length, drop, take, length-append, length-drop, length-take, take-append-drop}
-use lib.Seq.{drop-drop, drop-at, take-at, length-take-le}
+use lib.ListN.{length, getD, drop, take, length-append, length-drop, length-take, take-append-drop}
+use lib.Seq.{drop-cons, drop-drop, drop-at, take-at, length-take-le}
 use lib.Dec.{leb, ltb, eqb}
 use borrow.Author.Tests.{ltb-false, leb-true, le-leb}
 use Rattle.num.specs.Choice.{pick}
@@ -151,3 +151,42 @@ frames-cons o x l =
 pub frames-nil : (o : Order) → frames o [] ≡ []
 unfolding framesBy
 frames-nil o = refl
+
+-- how many bytes the first frame takes, by what stands there
+pub width-complete : (o : Order) (l : List ℕ) (t n : ℕ) → shows o l ≡ Complete t n → width (first o l) ≡ 12 + n
+width-complete o l t n e =
+    let h = complete o l t n e in
+    rw e (omega (arith, length-take-le n (drop 12 l) (simp length-drop (omega (arith, h .fits)))))
+
+pub width-cut : (o : Order) (l : List ℕ) → shows o l ≡ Unfinished → width (first o l) ≡ length l
+width-cut o l e = rw e
+
+skip-by : (o : Order) (l : List ℕ) (a : At) → stops a ≡ false → width (frameAt a (gap o l) l) ≡ gap o l
+skip-by o l NoSync h = length-take-le (gap o l) l (gap-le o l)
+skip-by o l Bad h = length-take-le (gap o l) l (gap-le o l)
+skip-by o l Unfinished h = let z : _≡_ {A = ℕ} 0 1 = cc in absurd (omega arith)
+skip-by o l (Complete t n) h = let z : _≡_ {A = ℕ} 0 1 = cc in absurd (omega arith)
+
+pub width-skip : (o : Order) (l : List ℕ) → stops (shows o l) ≡ false → width (first o l) ≡ gap o l
+width-skip o l h = skip-by o l (shows o l) h
+
+-- one frame more of a stream
+pub record Moves (o : Order) (s : List ℕ) (p w : ℕ) : Type 0 where
+  pub some : 1 ≤ w
+  pub fits : p + w ≤ length s
+  pub rest : frames o (drop p s) ≡ first o (drop p s) ∷ frames o (drop (p + w) s)
+
+moves-by : (o : Order) (s : List ℕ) (p x : ℕ) (l : List ℕ) → drop p s ≡ x ∷ l → p < length s → Moves o s p (width (first o (drop p s)))
+moves-by o s p x l e h =
+    let w = width (first o (drop p s)) in
+    let k = first-takes o x l in
+    let m : w ≡ width (first o (x ∷ l)) = rw e in
+    let n : length (x ∷ l) ≡ length s - p = sym (ap length e) ∙ length-drop p s in
+    record {
+      some = omega (arith, k .some);
+      fits = omega (arith, k .most);
+      rest = rw (← drop-drop w p s, e) (frames-cons o x l);
+    }
+
+pub moves : (o : Order) (s : List ℕ) (p : ℕ) → p < length s → Moves o s p (width (first o (drop p s)))
+moves o s p h = moves-by o s p (getD s p 0) (drop (suc p) s) (drop-cons s p 0 h) h

@@ -8,7 +8,7 @@ use native.Mathlib.Omega.{arith}
 use lib.ListN.{length, getD, drop, take, length-append, length-drop, length-take, take-append-drop}
 use lib.Seq.{drop-cons, drop-drop, getD-drop, length-take-le, take-append-seam}
 use lib.Dec.{eqb, leb, ltb}
-use borrow.Author.Tests.{eq-eqb, eqb-true, lt-ltb, le-ltb}
+use borrow.Author.Tests.{eq-eqb, eqb-true, lt-ltb, le-ltb, ltb-true, ltb-false}
 use mathlib.Core.Logic.{_⊎_, inl, inr}
 use denote.Enum.Declared.{tagOf}
 use Rattle.num.specs.Answer.{gives, refuses}
@@ -19,6 +19,7 @@ use Rattle.num.specs.declared.Order.the-variants.{Big, Little}
 use Rattle.num.proofs.Laws.{Bytes, at-some, bytes-length, read-written, written-read}
 use Rattle.frame.specs.declared.At.{At}
 use Rattle.frame.specs.declared.At.the-variants.{NoSync, Bad, Unfinished, Complete}
+use Rattle.frame.specs.declared.Found.{Found}
 use Rattle.frame.specs.declared.Found.the-variants.{Place, Nothing}
 use Rattle.frame.proofs.At.{the-type}
 use Rattle.frame.specs.Place.{syncBytes, starts, word, typeIn, sizeIn, goodSize, shows, stops, gap, searchFrom, orderOf}
@@ -164,6 +165,21 @@ pub search-here : (o : Order) (s : List ℕ) (from p : ℕ) → p < length s →
 search-here o s from p h q e =
     let g : from + gap o (drop from s) ≡ p = omega (arith, gap-stop o (drop p s) q) in
     rw (g, lt-ltb p (length s) h)
+
+place-by : (a p n : ℕ) (b : Bool) → ltb a n ≡ b → pick b (Place a) Nothing ≡ Place p → (a ≡ p) × (p < n)
+place-by a p n true t e = let q : a ≡ p = cc in (q, omega (arith, ltb-true a n t))
+place-by a p n false t e = let z : _≡_ {A = ℕ} 0 1 = cc in absurd (omega arith)
+
+-- and what its answers say
+pub search-at : (o : Order) (s : List ℕ) (from p : ℕ) → searchFrom o s from ≡ Place p → (from + gap o (drop from s) ≡ p) × (p < length s)
+search-at o s from p e = let a = from + gap o (drop from s) in place-by a p (length s) (ltb a (length s)) refl e
+
+nothing-by : (a n : ℕ) (b : Bool) → ltb a n ≡ b → _≡_ {A = Found} (pick b (Place a) Nothing) Nothing → n ≤ a
+nothing-by a n true t e = let z : _≡_ {A = ℕ} 0 1 = cc in absurd (omega arith)
+nothing-by a n false t e = ltb-false a n t
+
+pub search-end : (o : Order) (s : List ℕ) (from : ℕ) → searchFrom o s from ≡ Nothing → length s ≤ from + gap o (drop from s)
+search-end o s from e = let a = from + gap o (drop from s) in nothing-by a (length s) (ltb a (length s)) refl e
 
 -- the arms of a `match` that bind nothing say only the variant's number
 pub stop-told : (a : At) → (tagOf the-type a ≡ 3) ⊎ (tagOf the-type a ≡ 2) → stops a ≡ true

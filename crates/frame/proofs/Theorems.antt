@@ -23,7 +23,7 @@ use Rattle.frame.specs.declared.OrderFound.{OrderFound}
 use Rattle.frame.specs.declared.OrderFound.the-variants.{Is, Neither}
 use Rattle.frame.specs.Place.{syncBytes, starts, shows, stops, gap, searchFrom, orderOf, orderSaid}
 use Rattle.frame.specs.Frames.{Frame, frameBytes, width, frameAt, first, framesBy, frames}
-use Rattle.frame.proofs.Laws.{drop-bytes, shows-none, gap-stop, gap-pass, gap-step, search-here}
+use Rattle.frame.proofs.Laws.{drop-bytes, shows-none, gap-stop, gap-pass, gap-step, search-here, search-at, search-end}
 use Rattle.frame.proofs.Frames.{complete, chunk-back, gap-le, first-takes, fuel, frames-cons, frames-nil}
 
 -- ---- every byte belongs to exactly one frame
@@ -127,14 +127,9 @@ pub record Stopped (o : Order) (s : List ℕ) (from p : ℕ) : Type 0 where
   pub here : stops (shows o (drop p s)) ≡ true
   pub before : (q : ℕ) → from ≤ q → q < p → stops (shows o (drop q s)) ≡ false
 
-place-by : (a p n : ℕ) (b : Bool) → ltb a n ≡ b → pick b (Place a) Nothing ≡ Place p → (a ≡ p) × (p < n)
-place-by a p n true t e = let q : a ≡ p = cc in (q, omega (arith, ltb-true a n t))
-place-by a p n false t e = let z : _≡_ {A = ℕ} 0 1 = cc in absurd (omega arith)
-
 pub search-stopped : (o : Order) (s : List ℕ) (from p : ℕ) → searchFrom o s from ≡ Place p → Stopped o s from p
 search-stopped o s from p e =
-    let a = from + gap o (drop from s) in
-    let h = place-by a p (length s) (ltb a (length s)) refl e in
+    let h = search-at o s from p e in
     let n : length (drop from s) ≡ length s - from = length-drop from s in
     let i = h .0 in
     record {
@@ -146,15 +141,10 @@ search-stopped o s from p e =
           rw (k, ← drop-drop (q - from) from s) (gap-before o (drop from s) (q - from) (omega arith));
     }
 
-nothing-by : (a n : ℕ) (b : Bool) → ltb a n ≡ b → _≡_ {A = Found} (pick b (Place a) Nothing) Nothing → n ≤ a
-nothing-by a n true t e = let z : _≡_ {A = ℕ} 0 1 = cc in absurd (omega arith)
-nothing-by a n false t e = ltb-false a n t
-
 -- and where it found none, there is none
 pub search-nothing : (o : Order) (s : List ℕ) (from q : ℕ) → searchFrom o s from ≡ Nothing → from ≤ q → q < length s → stops (shows o (drop q s)) ≡ false
 search-nothing o s from q e l u =
-    let a = from + gap o (drop from s) in
-    let h = nothing-by a (length s) (ltb a (length s)) refl e in
+    let h = search-end o s from e in
     let k : q ≡ from + (q - from) = omega arith in
     rw (k, ← drop-drop (q - from) from s) (gap-before o (drop from s) (q - from) (omega arith))
 

@@ -1,7 +1,7 @@
 -- Which states are good: every present value is one that the body table allows, every absent value and every list place
 -- that is not used is 0. A state that is not good is refused with number 3 where its cursor is in step.
 use Prim.Native.Nat.{ℕ, zero, suc, _^_}
-use mathlib.Core.Bool.{Bool, true, false}
+use mathlib.Core.Bool.{Bool, true, false, not, _&&_}
 use mathlib.Core.List.{List, [], _∷_}
 use lib.Dec.{eqb, ltb, leb}
 use lib.Ieee.{Float, nan, inf, fin, binary32, ofBits, lt}
@@ -34,6 +34,7 @@ isPlusZero (fin false (suc m) e) = false
 abbrev pub goodNumber : (ℤ → Bool) → Held → Bool
 goodNumber ok h = pick (h .present) (ok (h .value)) (isZero (h .value))
 
+-- a bandwidth of at least 0 with any offset, or both absent
 abbrev pub goodBand : BandHeld → Bool
 goodBand b = pick (b .present) (leZ (pos 0) (b .width)) (both (isZero (b .width)) (isZero (b .offset)))
 
@@ -70,7 +71,7 @@ nothing x = eqb x 0
 abbrev pub goodHead : GroupPacking → Bool
 goodHead g =
     pick (eqb (g .n) 0)
-    (both (eqb (g .increment) 0) (pick (g .iq) false true))
+    (both (eqb (g .increment) 0) (not (g .iq)))
     (either (eqb (g .increment) 1) (eqb (g .increment) (g .n)))
 
 abbrev pub goodGroup : GroupPacking → Bool
@@ -82,15 +83,17 @@ goodFrequencies g = goodList anyNumber isZero (g .n) (g .values)
 abbrev pub goodGains : GroupGains → Bool
 goodGains g = goodList isFinite isPlusZero (g .n) (g .values)
 
+-- every part is good; the mark may be set or not
 unfoldable pub goodState : State → Bool
 goodState s =
-    both (goodNumber zeroOrOne (s .packing))
-    (both (goodNumber (leZ (pos 1)) (s .rate))
-    (both (goodBand (s .band))
-    (both (goodNumber (leZ (pos 0)) (s .«group_band»))
-    (both (goodNumber anyNumber (s .centre))
-    (both (goodLevel isFinite (s .«full_scale»))
-    (both (goodLevel isFinite (s .«total_gain»))
-    (both (goodLevel scale (s .«float_scale»))
-    (both (goodGroup (s .group))
-    (both (goodFrequencies (s .frequencies)) (goodGains (s .gains)))))))))))
+    goodNumber zeroOrOne (s .packing)
+    && goodNumber (leZ (pos 1)) (s .rate)
+    && goodBand (s .band)
+    && goodNumber (leZ (pos 0)) (s .«group_band»)
+    && goodNumber anyNumber (s .centre)
+    && goodLevel isFinite (s .«full_scale»)
+    && goodLevel isFinite (s .«total_gain»)
+    && goodLevel scale (s .«float_scale»)
+    && goodGroup (s .group)
+    && goodFrequencies (s .frequencies)
+    && goodGains (s .gains)

@@ -1,7 +1,7 @@
 -- The channel state, empty and with one value changed.
-use mathlib.Core.Bool.{Bool, true, false}
-use lib.Ieee.{Float, binary32, ofBits}
-use lib.IntN.{ℤ, pos}
+use mathlib.Core.Bool.{Bool, false}
+use lib.Ieee.{binary32, ofBits}
+use lib.IntN.{pos}
 use Rattle.body.specs.Groups.{noPacking, noHertz, noGains}
 use Rattle.body.specs.declared.group.GroupPacking.{GroupPacking}
 use Rattle.body.specs.declared.group.GroupHertz.{GroupHertz}

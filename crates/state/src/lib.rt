@@ -5,6 +5,7 @@ use body::group::GroupGains;
 use body::group::GroupHertz;
 use body::group::GroupPacking;
 
+pub mod good;
 
 // A whole number, absent or present. Absent, it is 0.
 pub struct Held {

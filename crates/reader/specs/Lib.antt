@@ -1,0 +1,4 @@
+pub mod Item
+pub mod Step
+pub mod Items
+pub mod Took

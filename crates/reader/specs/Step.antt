@@ -1,0 +1,84 @@
+-- One step of the reader.
+use Prim.Native.Nat.{ℕ, _+_}
+use mathlib.Core.Bool.{Bool, true, false, not}
+use mathlib.Core.List.{List, [], _∷_}
+use lib.Dec.{ltb}
+use lib.ListN.{length, take, drop}
+use Rattle.num.specs.Answer.{Answer, gives, refuses}
+use Rattle.num.specs.Choice.{pick, both}
+use Rattle.num.specs.declared.Order.{Order}
+use Rattle.frame.specs.Place.{shows, gap}
+use Rattle.frame.specs.declared.At.{At}
+use Rattle.frame.specs.declared.At.the-variants.{NoSync, Bad, Unfinished, Complete}
+use Rattle.body.specs.Kind.{kindOf}
+use Rattle.state.specs.State.{emptied}
+use Rattle.state.specs.Good.{goodState}
+use Rattle.state.specs.declared.State.{State}
+use Rattle.effect.specs.Ready.{noState}
+use Rattle.effect.specs.Effect.{Effect, effect}
+use Rattle.reader.specs.Item.{Item, end, skipped, unfinished, chunk}
+use Rattle.reader.specs.declared.Cursor.{Cursor}
+
+-- the answer, the state that is shown, and the cursor moved on
+pub record Step : Type 0 where
+  pub item : Answer Item
+  pub shown : State
+  pub cursor : Cursor
+
+abbrev pub cursorAt : ℕ → Bool → State → Cursor
+cursorAt place step s = record { place = place; «in_step» = step; state = s }
+
+-- a reader starts searching, at place 0, with no value
+abbrev pub newCursor : Cursor
+newCursor = cursorAt 0 false noState
+
+-- the state before a chunk takes effect: emptied, with the start mark, where the reader was searching
+abbrev pub before : Bool → State → State
+before step s = pick step s (emptied true)
+
+-- the cursor moved past a chunk, which puts it in step
+abbrev pub accepted : Cursor → ℕ → Cursor
+accepted c to = cursorAt to true (before (c .«in_step») (c .state))
+
+-- the cursor searching, where it stands
+abbrev pub lost : Cursor → Cursor
+lost c = cursorAt (c .place) false (c .state)
+
+-- a refusal leaves the cursor as it came
+abbrev pub refused : ℕ → Cursor → Step
+refused n c = record { item = refuses n; shown = noState; cursor = c }
+
+-- at no sync or a bad header, the stretch up to where a search stops is skipped, and the reader is searching
+abbrev pub skips : Cursor → ℕ → Step
+skips c g = record { item = gives (skipped (c .place) g); shown = noState; cursor = cursorAt (c .place + g) false (c .state) }
+
+-- an unfinished end is one item, and the cursor moves to the end and is otherwise as it came
+abbrev pub cuts : Cursor → ℕ → Step
+cuts c n = record { item = gives (unfinished (c .place) n); shown = noState; cursor = cursorAt (c .place + n) (c .«in_step») (c .state) }
+
+-- a complete chunk is accepted
+abbrev pub accepts : Cursor → ℕ → ℕ → Effect → Step
+accepts c code size e = record {
+  item = gives (chunk (c .place) code size (e .says));
+  shown = e .shown;
+  cursor = cursorAt (c .place + 12 + size) true (e .after);
+}
+
+-- by what stands at the place, l being ahead of it
+abbrev pub stepBy : Order → List ℕ → Cursor → At → Step
+stepBy o l c (Complete code size) = accepts c code size (effect o (kindOf code) (take size (drop 12 l)) (before (c .«in_step») (c .state)))
+stepBy o l c Unfinished = cuts c (length l)
+stepBy o l c NoSync = skips c (gap o l)
+stepBy o l c Bad = skips c (gap o l)
+
+-- with no byte left the answer is End, the cursor as it came
+abbrev pub stepAhead : Order → List ℕ → Cursor → Step
+stepAhead o [] c = record { item = gives end; shown = noState; cursor = c }
+stepAhead o (x ∷ l) c = stepBy o (x ∷ l) c (shows o (x ∷ l))
+
+-- number 2 past the end; number 3 in step with a state that is not good; then what is ahead
+unfoldable pub stepOf : Order → List ℕ → Cursor → Step
+stepOf o s c =
+    pick (ltb (length s) (c .place)) (refused 2 c)
+    (pick (both (c .«in_step») (not (goodState (c .state)))) (refused 3 c)
+    (stepAhead o (drop (c .place) s) c))

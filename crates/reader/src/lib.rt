@@ -1,0 +1,218 @@
+// The reader: a cursor that steps through a stream held in one lent slice.
+ghost use mathlib.Core.Path.{_≡_};
+ghost use Prim.Native.Nat.{_+_, _-_, _^_, _<_, _≤_};
+ghost use lib.ListN.{length, take, drop};
+ghost use Rattle.body.specs.Kind.{kindOf};
+ghost use Rattle.effect.specs.Effect.{effect};
+ghost use Rattle.effect.specs.Ready.{noState};
+ghost use Rattle.frame.specs.Place.{gap};
+ghost use Rattle.reader.specs.Items.{items};
+ghost use Rattle.reader.specs.Took.{Took};
+ghost use Rattle.reader.specs.Step.{cursorAt, newCursor, before, accepted, lost, accepts, cuts, skips, stepOf};
+use effect::Verdict;
+use frame::At;
+use frame::Found;
+use num::Order;
+use state::State;
+
+// Where a reader stands: a place of the stream, in step or searching, and the channel state.
+pub struct Cursor {
+    pub place: usize,
+    pub in_step: bool,
+    pub state: State,
+}
+
+// What a step gives.
+pub enum Item {
+    // Refused: the cursor's place is past the end. Number 2.
+    PastEnd,
+    // Refused: the cursor is in step with a state that is not good. Number 3.
+    BadState,
+    // No byte is left.
+    End,
+    Skipped {
+        place: usize,
+        length: usize,
+    },
+    Unfinished {
+        place: usize,
+        length: usize,
+    },
+    Chunk {
+        place: usize,
+        code: u32,
+        size: usize,
+        verdict: Verdict,
+    },
+}
+
+// The item; the state that a ready chunk shows, empty where nothing is shown; the cursor moved on.
+pub struct Stepped {
+    pub item: Item,
+    pub shown: State,
+    pub cursor: Cursor,
+}
+
+impl Cursor {
+    // Searching, at place 0, with no value.
+    pub fn new() -> Self
+        ensures { λ r. ⌜ r ≡ newCursor ⌝ }
+    {
+        Cursor {
+            place: 0,
+            in_step: false,
+            state: State::empty(false),
+        }
+    }
+
+    // Past a chunk, and in step. The state of a searching reader is emptied.
+    pub fn accept(self, to: usize) -> Self
+        ensures { λ r. ⌜ r ≡ accepted self to ⌝ }
+    {
+        let mut next = self;
+        next.place = to;
+        if self.in_step {
+            return next;
+        }
+        Cursor {
+            place: to,
+            in_step: true,
+            state: State::empty(true),
+        }
+    }
+
+    // Searching, where it stands.
+    pub fn lose_step(mut self) -> Self
+        ensures { λ r. ⌜ r ≡ lost self ⌝ }
+    {
+        self.in_step = false;
+        self
+    }
+
+    // One item, and the cursor moved on.
+    pub fn step(self, order: Order, s: &[u8]) -> Stepped
+        ensures { λ r. ⌜ Took r (stepOf order (now (s .entry)) self) ⌝ }
+    {
+        let at = self.place;
+        if s.len() < at {
+            return still(Item::PastEnd, self);
+        }
+        let state = self.state;
+        if self.in_step & !state.good() {
+            return still(Item::BadState, self);
+        }
+        if at == s.len() {
+            return still(Item::End, self);
+        }
+        match frame::look(order, s, at) {
+            At::Complete { code, size } => {
+                let from = at + 12;
+                let to = from + size;
+                chunk(order, code, &s[from..to], self)
+            }
+            At::Unfinished => cut(s.len() - at, self),
+            At::NoSync | At::Bad => skip(order, s, self),
+        }
+    }
+}
+
+// An answer that shows nothing and leaves the cursor as it came.
+fn still(item: Item, cursor: Cursor) -> Stepped
+    ensures { λ r. ⌜ (r .item ≡ item) × (r .shown ≡ noState) × (r .cursor ≡ cursor) ⌝ }
+{
+    Stepped {
+        item,
+        shown: State::empty(false),
+        cursor,
+    }
+}
+
+// A complete chunk is accepted: the body takes effect on the state.
+fn chunk(order: Order, code: u32, body: &[u8], cursor: Cursor) -> Stepped
+    requires { ⌜ cursor .place + 12 + length (now body) < 2 ^ 64 ⌝ }
+    ensures { λ r. ⌜ Took r (accepts cursor code (length (now (body .entry))) (effect order (kindOf code) (now (body .entry)) (before (cursor .«in_step») (cursor .state)))) ⌝ }
+{
+    let place = cursor.place;
+    let size = body.len();
+    let mut next = cursor.accept(place + 12 + size);
+    let taken = effect::take::take(order, body::kind::kind_of(code), body, next.state);
+    let after = taken.state;
+    let shown = taken.shown;
+    let verdict = taken.verdict;
+    next.state = after;
+    Stepped {
+        item: Item::Chunk {
+            place,
+            code,
+            size,
+            verdict,
+        },
+        shown,
+        cursor: next,
+    }
+}
+
+// An unfinished end of so many bytes.
+fn cut(left: usize, cursor: Cursor) -> Stepped
+    requires { ⌜ cursor .place + left < 2 ^ 64 ⌝ }
+    ensures { λ r. ⌜ Took r (cuts cursor left) ⌝ }
+{
+    let place = cursor.place;
+    let mut next = cursor;
+    next.place = place + left;
+    Stepped {
+        item: Item::Unfinished {
+            place,
+            length: left,
+        },
+        shown: State::empty(false),
+        cursor: next,
+    }
+}
+
+// The stretch up to where a search stops is skipped.
+fn skip(order: Order, s: &[u8], cursor: Cursor) -> Stepped
+    requires { ⌜ cursor .place ≤ length (now s) ⌝ }
+    ensures { λ r. ⌜ Took r (skips cursor (gap order (drop (cursor .place) (now (s .entry))))) ⌝ }
+{
+    let place = cursor.place;
+    let to = stop(order, s, place);
+    let mut next = cursor.lose_step();
+    next.place = to;
+    Stepped {
+        item: Item::Skipped {
+            place,
+            length: to - place,
+        },
+        shown: State::empty(false),
+        cursor: next,
+    }
+}
+
+// The place where a search stops, or the end.
+fn stop(order: Order, s: &[u8], from: usize) -> usize
+    requires { ⌜ from ≤ length (now s) ⌝ }
+    ensures { λ r. ⌜ (r ≡ from + gap order (drop from (now (s .entry)))) × (r ≤ length (now (s .entry))) ⌝ }
+{
+    match frame::search(order, s, from) {
+        Found::Place(p) => p,
+        Found::Nothing => s.len(),
+    }
+}
+
+// How many items a stream has.
+pub fn count(order: Order, s: &[u8]) -> usize
+    ensures { λ r. ⌜ r ≡ length (items order (now (s .entry))) ⌝ }
+{
+    let mut n = 0;
+    let mut p = 0;
+    while p < s.len() {
+        match frame::look(order, s, p) {
+            At::Complete { code: _, size } => p += 12 + size,
+            At::Unfinished => p = s.len(),
+            At::NoSync | At::Bad => p = stop(order, s, p),
+        }
+        n += 1;
+    }
+    n
+}

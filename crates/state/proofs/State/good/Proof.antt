@@ -1,0 +1,72 @@
+-- Each call promises the test of one part, and the state's test is those tests together.
+use borrow.Author.Needs.{needs}
+use Rattle.state.specs.Good.{goodState}
+use Rattle.state.proofs.State.good.Statement.{statement}
+use Rattle.state.proofs.State.good.Tie as tie
+
+good-packing-requires : tie.Need-good-packing-requires
+good-packing-requires c κs = search needs
+
+good-at-least-requires : tie.Need-good-at-least-requires
+good-at-least-requires c κs = search needs
+
+good-band-requires : tie.Need-good-band-requires
+good-band-requires c κs = search needs
+
+good-at-least-requires-2 : tie.Need-good-at-least-requires-2
+good-at-least-requires-2 c κs = search needs
+
+good-centre-requires : tie.Need-good-centre-requires
+good-centre-requires c κs = search needs
+
+good-level-requires : tie.Need-good-level-requires
+good-level-requires c κs = search needs
+
+good-level-requires-2 : tie.Need-good-level-requires-2
+good-level-requires-2 c κs = search needs
+
+good-scale-requires : tie.Need-good-scale-requires
+good-scale-requires c κs = search needs
+
+good-group-requires : tie.Need-good-group-requires
+good-group-requires c κs = search needs
+
+good-frequencies-requires : tie.Need-good-frequencies-requires
+good-frequencies-requires c κs = search needs
+
+good-gains-requires : tie.Need-good-gains-requires
+good-gains-requires c κs = search needs
+
+returns : tie.Need-returns
+unfolding goodState
+returns c =
+    rw (
+      c .good-gains .ensures,
+      c .before .good-frequencies .ensures,
+      c .before .before .good-group .ensures,
+      c .before .before .before .good-scale .ensures,
+      c .before .before .before .before .good-level2 .ensures,
+      c .before .before .before .before .before .good-level .ensures,
+      c .before .before .before .before .before .before .good-centre .ensures,
+      c .before .before .before .before .before .before .before .good-at-least2 .ensures,
+      c .before .before .before .before .before .before .before .before .good-band .ensures,
+      c .before .before .before .before .before .before .before .before .before .good-at-least .ensures,
+      c .before .before .before .before .before .before .before .before .before .before .good-packing .ensures,
+    )
+
+pub good-spec : {M : Type 1} → statement M
+good-spec =
+    tie.close
+    (tie.spec
+    good-packing-requires
+    good-at-least-requires
+    good-band-requires
+    good-at-least-requires-2
+    good-centre-requires
+    good-level-requires
+    good-level-requires-2
+    good-scale-requires
+    good-group-requires
+    good-frequencies-requires
+    good-gains-requires
+    returns)

@@ -1,0 +1,67 @@
+//! What a stream shows at one place.
+
+use crate::order::Order;
+
+/// Sync, type and size.
+pub const HEADER: usize = 12;
+
+/// The largest body a chunk may have.
+pub const LARGEST_BODY: u32 = 69_632;
+
+/// Place, type and body size of a chunk.
+#[derive(Clone, Copy, Debug, PartialEq, Eq)]
+pub struct Frame {
+    pub place: usize,
+    pub code: u32,
+    pub size: usize,
+}
+
+impl Frame {
+    /// The first place after the chunk.
+    pub fn end(&self) -> usize {
+        self.place + HEADER + self.size
+    }
+
+    pub fn body<'a>(&self, stream: &'a [u8]) -> &'a [u8] {
+        &stream[self.place + HEADER..self.end()]
+    }
+}
+
+#[derive(Clone, Copy, Debug, PartialEq, Eq)]
+pub enum Look {
+    NoSync,
+    /// Sync and a whole header whose size is not good.
+    Bad,
+    /// Sync, but the header or the body runs past the end.
+    Unfinished,
+    Complete(Frame),
+}
+
+/// A good size, read as unsigned, is within the limit and whole words.
+pub fn size_is_good(size: u32) -> bool {
+    size <= LARGEST_BODY && size.is_multiple_of(4)
+}
+
+pub fn look(order: Order, stream: &[u8], place: usize) -> Look {
+    let rest = stream.get(place..).unwrap_or_default();
+    if !rest.starts_with(&order.sync()) {
+        return Look::NoSync;
+    }
+    let Some((header, after)) = rest.split_first_chunk::<HEADER>() else {
+        return Look::Unfinished;
+    };
+    let [_, _, _, _, t0, t1, t2, t3, s0, s1, s2, s3] = *header;
+    let size = order.u32([s0, s1, s2, s3]);
+    if !size_is_good(size) {
+        return Look::Bad;
+    }
+    let size = size as usize;
+    if after.len() < size {
+        return Look::Unfinished;
+    }
+    Look::Complete(Frame {
+        place,
+        code: order.u32([t0, t1, t2, t3]),
+        size,
+    })
+}

@@ -1,0 +1,43 @@
+//! A reader, a writer, a file check and a listing for PXGF streams, written
+//! from the paper rules with the standard library alone.
+//!
+//! The layers, from the bytes upwards: [`order`] reads numbers, [`search`]
+//! finds sync words, [`frame`] judges one place, [`walk`] cuts a stream into
+//! items, [`check`] judges bodies and gives what [`body`] names, [`state`] and
+//! [`cover`] decide what a data chunk means, [`reader`] joins them, and
+//! [`samples`] copies numbers out. On top stand [`mod@list`], [`mod@dump`],
+//! [`filecheck`] and [`write`](mod@write); [`make`](mod@make) and
+//! [`recordings`] put streams together.
+
+pub mod body;
+pub mod check;
+pub mod compose;
+pub mod cover;
+pub mod dump;
+pub mod filecheck;
+pub mod frame;
+pub mod kind;
+pub mod list;
+pub mod make;
+pub mod order;
+pub mod possible;
+pub mod reader;
+pub mod recordings;
+pub mod rng;
+pub mod samples;
+pub mod search;
+pub mod state;
+pub mod utf8;
+pub mod values;
+pub mod verdicts;
+pub mod walk;
+pub mod write;
+
+pub use body::{Body, Fault};
+pub use check::check_text;
+pub use kind::Kind;
+pub use order::Order;
+pub use reader::{Item, Reader, Verdict};
+pub use samples::{CopyRefusal, Ready};
+pub use search::{find_order, search};
+pub use walk::{count_items, Walk};

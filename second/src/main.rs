@@ -1,0 +1,153 @@
+//! The commands of the second program.
+
+use std::env;
+use std::fs::{self, File};
+use std::io::{self, BufRead, BufWriter, Read, Write};
+use std::path::Path;
+use std::process::ExitCode;
+
+use second::filecheck::check_file;
+use second::list::MOST_BYTES;
+use second::order::Order;
+use second::verdicts::Verdicts;
+use second::{dump, list, make, recordings, utf8, write};
+
+const USAGE: &str = "usage: second list FILE
+       second dump FILE
+       second check big|little FILE
+       second make SEED
+       second verdicts FILE...
+       second write big|little [--bytes]
+       second samples DIR
+       second utf8 FILE
+       second utf8make SEED COUNT";
+
+fn main() -> ExitCode {
+    let words: Vec<String> = env::args().skip(1).collect();
+    let words: Vec<&str> = words.iter().map(String::as_str).collect();
+    match run(&words) {
+        Ok(code) => code,
+        Err(problem) => {
+            eprintln!("second: {problem}");
+            ExitCode::from(2)
+        }
+    }
+}
+
+/// Status 0 says the command gave its answer, whatever the answer is.
+fn run(words: &[&str]) -> Result<ExitCode, String> {
+    match words {
+        ["list", file] => print(list::list(&read_for_listing(file)?).as_bytes()),
+        ["dump", file] => print(dump::dump(&read_for_listing(file)?).as_bytes()),
+        ["check", order, file] => {
+            let answer = match check_file(parse_order(order)?, &read(file)?) {
+                Ok(items) => format!("good {items}\n"),
+                Err(refusal) => format!("refused {} {}\n", refusal.number(), refusal.place()),
+            };
+            print(answer.as_bytes())
+        }
+        ["make", seed] => print(&make::make(parse_number(seed)?)),
+        ["verdicts", files @ ..] if !files.is_empty() => count_verdicts(files),
+        ["write", order] => write_records(parse_order(order)?, false),
+        ["write", order, "--bytes"] => write_records(parse_order(order)?, true),
+        ["samples", dir] => write_samples(Path::new(dir)),
+        ["utf8", file] => {
+            let verdicts = utf8::judge_strings(&read(file)?)
+                .ok_or_else(|| format!("{file} ends inside a string"))?;
+            print(format!("{verdicts}\n").as_bytes())
+        }
+        ["utf8make", seed, count] => {
+            let mut out = BufWriter::new(io::stdout().lock());
+            utf8::make_strings(parse_number(seed)?, parse_number(count)?, &mut out)
+                .and_then(|()| out.flush())
+                .map_err(|e| e.to_string())?;
+            Ok(ExitCode::SUCCESS)
+        }
+        _ => Err(USAGE.to_owned()),
+    }
+}
+
+fn parse_order(word: &str) -> Result<Order, String> {
+    Order::from_name(word).ok_or_else(|| format!("{word} is not big or little"))
+}
+
+fn parse_number(word: &str) -> Result<u64, String> {
+    word.parse().map_err(|_| format!("{word} is not a number"))
+}
+
+fn read(file: &str) -> Result<Vec<u8>, String> {
+    fs::read(file).map_err(|e| format!("{file}: {e}"))
+}
+
+/// One byte past the limit is enough to know that a file is too long.
+fn read_for_listing(file: &str) -> Result<Vec<u8>, String> {
+    let mut bytes = Vec::new();
+    File::open(file)
+        .and_then(|f| f.take(MOST_BYTES as u64 + 1).read_to_end(&mut bytes))
+        .map_err(|e| format!("{file}: {e}"))?;
+    Ok(bytes)
+}
+
+fn print(bytes: &[u8]) -> Result<ExitCode, String> {
+    let mut out = io::stdout().lock();
+    out.write_all(bytes)
+        .and_then(|()| out.flush())
+        .map_err(|e| e.to_string())?;
+    Ok(ExitCode::SUCCESS)
+}
+
+fn count_verdicts(files: &[&str]) -> Result<ExitCode, String> {
+    let mut verdicts = Verdicts::default();
+    for file in files {
+        let listing = fs::read_to_string(file).map_err(|e| format!("{file}: {e}"))?;
+        verdicts
+            .add(&listing)
+            .map_err(|line| format!("{file}: no listing has the line {line:?}"))?;
+    }
+    let table: String = verdicts
+        .counts()
+        .map(|((kind, verdict), count)| format!("{kind} {verdict} {count}\n"))
+        .collect();
+    print(table.as_bytes())?;
+    let (missing, outside) = (verdicts.missing(), verdicts.outside());
+    for (kind, verdict) in &missing {
+        eprintln!("not met: {kind} {verdict}");
+    }
+    for (kind, verdict) in &outside {
+        eprintln!("cannot occur: {kind} {verdict}");
+    }
+    if missing.is_empty() && outside.is_empty() {
+        Ok(ExitCode::SUCCESS)
+    } else {
+        Ok(ExitCode::FAILURE)
+    }
+}
+
+/// Prints a verdict for each record, or the bytes of the accepted ones.
+fn write_records(order: Order, bytes: bool) -> Result<ExitCode, String> {
+    let mut verdicts = String::new();
+    let mut stream = Vec::new();
+    for (number, line) in io::stdin().lock().lines().enumerate() {
+        let line = line.map_err(|e| e.to_string())?;
+        let (code, body) = write::parse_record(&line)
+            .ok_or_else(|| format!("line {} is no record", number + 1))?;
+        match write::write_record(order, code, &body, &mut stream) {
+            Ok(size) => verdicts.push_str(&format!("ok {size}\n")),
+            Err(refusal) => verdicts.push_str(&format!("refused {}\n", refusal.number())),
+        }
+    }
+    if bytes {
+        print(&stream)
+    } else {
+        print(verdicts.as_bytes())
+    }
+}
+
+fn write_samples(dir: &Path) -> Result<ExitCode, String> {
+    fs::create_dir_all(dir).map_err(|e| format!("{}: {e}", dir.display()))?;
+    for (name, bytes) in recordings::all() {
+        let path = dir.join(name);
+        fs::write(&path, bytes).map_err(|e| format!("{}: {e}", path.display()))?;
+    }
+    Ok(ExitCode::SUCCESS)
+}

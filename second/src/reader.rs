@@ -1,0 +1,148 @@
+//! Reading a stream: items, verdicts and the state shown with data.
+
+use crate::body::{Body, Fault};
+use crate::check::check;
+use crate::cover::covers;
+use crate::frame::Frame;
+use crate::kind::{DataForm, Kind};
+use crate::order::Order;
+use crate::samples::Ready;
+use crate::state::{Lack, State};
+use crate::walk::{Span, Walk};
+
+/// Number of the refusal of a group chunk whose layout doesn't cover it.
+pub const NO_COVER: u32 = 16;
+
+/// One stretch of the stream, held in place so that reading needs no memory
+/// beside the stream.
+#[allow(clippy::large_enum_variant)]
+#[derive(Clone, Debug)]
+pub enum Item<'a> {
+    Skipped {
+        place: usize,
+        len: usize,
+    },
+    Unfinished {
+        place: usize,
+        len: usize,
+    },
+    Chunk {
+        frame: Frame,
+        kind: Option<Kind>,
+        verdict: Verdict<'a>,
+    },
+}
+
+/// What a reader says of an accepted chunk.
+#[allow(clippy::large_enum_variant)]
+#[derive(Clone, Debug)]
+pub enum Verdict<'a> {
+    /// A type with no rules of its own.
+    Unknown,
+    Malformed(Fault),
+    /// A group chunk that its layout doesn't cover.
+    NoCover,
+    /// Well-formed, and not of a data kind.
+    Plain(Body<'a>),
+    Waits {
+        lack: Lack,
+        time: i64,
+    },
+    Ready(Ready<'a>),
+}
+
+/// Gives the items of a stream one after the other.
+#[derive(Clone, Debug)]
+pub struct Reader<'a> {
+    walk: Walk<'a>,
+    state: State,
+    start: bool,
+}
+
+impl<'a> Reader<'a> {
+    pub fn new(order: Order, stream: &'a [u8]) -> Self {
+        Reader {
+            walk: Walk::new(order, stream),
+            state: State::default(),
+            start: false,
+        }
+    }
+
+    fn judge(&mut self, frame: Frame, kind: Kind) -> Verdict<'a> {
+        let body = frame.body(self.walk.stream());
+        match check(self.walk.order(), kind, body) {
+            Err(fault) => {
+                self.state.remove(kind);
+                self.start |= kind.data_form().is_some();
+                Verdict::Malformed(fault)
+            }
+            Ok(Body::Data {
+                form,
+                time,
+                samples,
+            }) => {
+                let verdict = self.judge_data(form, time, samples);
+                // A ready chunk shows the mark and clears it; any other sets it.
+                self.start = !matches!(verdict, Verdict::Ready(_));
+                verdict
+            }
+            Ok(body) => {
+                self.state.set(&body);
+                self.start |= matches!(body, Body::Discontinuity);
+                Verdict::Plain(body)
+            }
+        }
+    }
+
+    fn judge_data(&self, form: DataForm, time: i64, samples: &'a [u8]) -> Verdict<'a> {
+        if let Some(lack) = self.state.lack(form) {
+            return Verdict::Waits { lack, time };
+        }
+        let group = self.state.group_packing.filter(|_| form.group);
+        if let Some(layout) = &group {
+            if !covers(layout, samples.len() / form.sample_bytes()) {
+                return Verdict::NoCover;
+            }
+        }
+        let state = match &group {
+            Some(layout) => self.state.shown_in_group(layout.channels()),
+            None => self.state,
+        };
+        Verdict::Ready(Ready {
+            order: self.walk.order(),
+            form,
+            time,
+            start: self.start,
+            state,
+            samples,
+        })
+    }
+}
+
+impl<'a> Iterator for Reader<'a> {
+    type Item = Item<'a>;
+
+    fn next(&mut self) -> Option<Item<'a>> {
+        Some(match self.walk.next()? {
+            Span::Skipped { place, len } => Item::Skipped { place, len },
+            Span::Unfinished { place, len } => Item::Unfinished { place, len },
+            Span::Chunk { frame, regained } => {
+                if regained {
+                    // Nothing from before the gap may reach what follows it.
+                    self.state = State::default();
+                    self.start = true;
+                }
+                let kind = Kind::from_code(frame.code);
+                let verdict = match kind {
+                    Some(kind) => self.judge(frame, kind),
+                    None => Verdict::Unknown,
+                };
+                Item::Chunk {
+                    frame,
+                    kind,
+                    verdict,
+                }
+            }
+        })
+    }
+}

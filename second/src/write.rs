@@ -1,0 +1,78 @@
+//! The writer: records to chunks.
+
+use crate::body::Fault;
+use crate::check::check;
+use crate::frame::size_is_good;
+use crate::kind::Kind;
+use crate::order::Order;
+
+#[derive(Clone, Copy, Debug, PartialEq, Eq)]
+pub enum WriteRefusal {
+    /// The body's size is not one a chunk can have.
+    Size,
+    /// The type is known and the body isn't one of its kind.
+    Malformed(Fault),
+}
+
+impl WriteRefusal {
+    pub const fn number(self) -> u32 {
+        match self {
+            WriteRefusal::Size => 32,
+            WriteRefusal::Malformed(fault) => fault.number(),
+        }
+    }
+}
+
+/// Adds one record to `out` as a chunk and gives the body's size. A refused
+/// record adds nothing. Whether a group chunk is covered is not asked here,
+/// as that depends on other records.
+pub fn write_record(
+    order: Order,
+    code: u32,
+    body: &[u8],
+    out: &mut Vec<u8>,
+) -> Result<usize, WriteRefusal> {
+    let size = u32::try_from(body.len())
+        .ok()
+        .filter(|size| size_is_good(*size))
+        .ok_or(WriteRefusal::Size)?;
+    if let Some(kind) = Kind::from_code(code) {
+        check(order, kind, body).map_err(WriteRefusal::Malformed)?;
+    }
+    out.extend(order.sync());
+    out.extend(order.put_u32(code));
+    out.extend(order.put_u32(size));
+    out.extend(body);
+    Ok(body.len())
+}
+
+/// A line of input: a type, as eight hex digits or the four letters of a
+/// known kind, and a body in hex, `-` if empty.
+pub fn parse_record(line: &str) -> Option<(u32, Vec<u8>)> {
+    let mut words = line.split_whitespace();
+    let (code, body) = (words.next()?, words.next()?);
+    if words.next().is_some() {
+        return None;
+    }
+    let code = match Kind::from_name(code) {
+        Some(kind) => kind.code(),
+        None => u32::from_be_bytes(hex(code)?.try_into().ok()?),
+    };
+    let body = match body {
+        "-" => Vec::new(),
+        digits => hex(digits)?,
+    };
+    Some((code, body))
+}
+
+fn hex(digits: &str) -> Option<Vec<u8>> {
+    let (pairs, rest) = digits.as_bytes().as_chunks::<2>();
+    if !rest.is_empty() {
+        return None;
+    }
+    let digit = |d: u8| char::from(d).to_digit(16);
+    pairs
+        .iter()
+        .map(|[high, low]| Some((digit(*high)? * 16 + digit(*low)?) as u8))
+        .collect()
+}

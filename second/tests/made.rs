@@ -1,0 +1,105 @@
+//! The made streams: their limits, and that together they meet everything.
+
+use second::dump::dump;
+use second::filecheck::check_file;
+use second::list::list;
+use second::make::{make, MOST_BYTES};
+use second::utf8::{judge_strings, make_strings};
+use second::verdicts::{table, Verdicts};
+use second::{count_items, find_order, Order};
+
+#[test]
+fn every_possible_verdict_is_met() {
+    let mut verdicts = Verdicts::default();
+    for seed in 0..300 {
+        verdicts.add(&dump(&make(seed))).unwrap();
+    }
+    assert_eq!(verdicts.missing(), []);
+    assert_eq!(verdicts.outside(), []);
+}
+
+/// 22 ok; 22 with 11, 10 with 12, 3 with 13, TEXT with 14 and 15, 2 with 16;
+/// 4 with 21, 6 with 22, 3 with 23; 5 lines without a kind and 2 orders.
+#[test]
+fn size_of_the_table() {
+    let table = table();
+    assert_eq!(table.len(), 22 + 22 + 10 + 3 + 2 + 2 + 4 + 6 + 3 + 5 + 2);
+    let has = |kind: &str, verdict: &str| table.contains(&(kind.into(), verdict.into()));
+    assert!(has("SSNR", "wait 22") && !has("SSNR", "wait 21") && !has("SSNR", "wait 23"));
+    assert!(has("SFNR", "wait 23") && !has("SFNR", "wait 21"));
+    assert!(has("GSNC", "bad 16") && !has("SSNC", "bad 16"));
+    assert!(!has("CF__", "bad 12") && !has("GCF_", "bad 12") && has("GRG_", "bad 12"));
+    assert!(!has("TEXT", "bad 12") && !has("SOFH", "bad 12"));
+}
+
+#[test]
+fn limits_and_sameness() {
+    let mut long = 0;
+    for seed in 0..300 {
+        let stream = make(seed);
+        assert_eq!(stream, make(seed));
+        if stream.len() > MOST_BYTES {
+            assert!(stream.len() > 65_536);
+            long += 1;
+        }
+    }
+    assert_eq!(long, 3);
+}
+
+#[test]
+fn every_file_refusal_is_met() {
+    let mut met = std::collections::BTreeMap::new();
+    for seed in 0..300 {
+        let stream = make(seed);
+        let order = find_order(&stream).unwrap_or(Order::Big);
+        let number = check_file(order, &stream).map_or_else(|refusal| refusal.number(), |_| 0);
+        *met.entry(number).or_insert(0) += 1;
+    }
+    let numbers: Vec<u32> = met.keys().copied().collect();
+    assert_eq!(numbers, [0, 41, 42, 43, 44]);
+}
+
+/// Every byte belongs to one item, and items are counted alike.
+#[test]
+fn items_share_out_the_bytes() {
+    for seed in 0..300 {
+        let stream = make(seed);
+        let text = list(&stream);
+        let Some(order) = find_order(&stream).filter(|_| text != "long\n") else {
+            continue;
+        };
+        let mut place = 0;
+        for line in text.lines().skip(1) {
+            let words: Vec<&str> = line.split(' ').collect();
+            let number = |i: usize| words[i].parse::<usize>().unwrap();
+            match words[0] {
+                "end" => assert_eq!(number(1), count_items(order, &stream)),
+                "chunk" => {
+                    assert_eq!(number(1), place);
+                    place += 12 + number(3);
+                }
+                _ => {
+                    assert_eq!(number(1), place);
+                    place += number(2);
+                }
+            }
+        }
+        assert_eq!(place, stream.len(), "seed {seed}");
+    }
+}
+
+#[test]
+fn strings_of_both_sorts() {
+    let mut file = Vec::new();
+    make_strings(3, 10_000, &mut file).unwrap();
+    let verdicts = judge_strings(&file).unwrap();
+    assert_eq!(verdicts.len(), 10_000);
+    for verdict in ['0', '1'] {
+        assert!(verdicts.matches(verdict).count() > 3_000);
+    }
+    assert!(judge_strings(&file[..file.len() - 1]).is_none());
+    assert_eq!(
+        judge_strings(b"\x01\0\0\0a\x02\0\0\0\xC0\x80\0\0\0\0").as_deref(),
+        Some("101")
+    );
+}

@@ -1,0 +1,117 @@
+//! What the sample recordings are meant to show.
+
+use second::dump::dump;
+use second::filecheck::check_file;
+use second::list::list;
+use second::order::Order;
+use second::recordings::all;
+
+fn recording(name: &str) -> Vec<u8> {
+    let found = all().into_iter().find(|(n, _)| *n == name);
+    found.expect(name).1
+}
+
+#[test]
+fn all_are_small() {
+    assert!(all().iter().all(|(_, bytes)| bytes.len() < 2048));
+}
+
+#[test]
+fn whole() {
+    let file = recording("whole.pxgf");
+    assert_eq!(check_file(Order::Big, &file), Ok(13));
+    // The note has 31 characters, one of them of three bytes: 33 bytes of
+    // text in 36, and the length.
+    assert!(list(&file).contains("chunk 16 TEXT 40 ok\nchunk 68 EOFH 0 ok\n"));
+    let marks: Vec<String> = dump(&file)
+        .lines()
+        .filter(|line| line.starts_with("  mark"))
+        .map(str::to_owned)
+        .collect();
+    assert_eq!(marks, ["  mark 1", "  mark 0", "  mark 1"]);
+}
+
+#[test]
+fn dropped_link() {
+    let expected = "pxgf big 216\n\
+        chunk 0 CF__ 8 ok\n\
+        chunk 20 SIQP 4 ok\n\
+        chunk 36 SR__ 8 ok\n\
+        chunk 56 SSNC 16 ok\n\
+        \x20 time 1700000000000000000\n\
+        \x20 mark 1\n\
+        \x20 SIQP 1\n\
+        \x20 SR__ 256000000000\n\
+        \x20 CF__ 98500000000000\n\
+        \x20 samples 0 4 1000 2000 3000 4000\n\
+        skip 84 20\n\
+        chunk 104 SIQP 4 ok\n\
+        chunk 120 SR__ 8 ok\n\
+        chunk 140 SSNC 16 ok\n\
+        \x20 time 1700000002000000000\n\
+        \x20 mark 1\n\
+        \x20 SIQP 1\n\
+        \x20 SR__ 256000000000\n\
+        \x20 samples 0 4 -5 6 -7 8\n\
+        chunk 168 CF__ 8 ok\n\
+        chunk 188 SSNC 16 ok\n\
+        \x20 time 1700000003000000000\n\
+        \x20 mark 0\n\
+        \x20 SIQP 1\n\
+        \x20 SR__ 256000000000\n\
+        \x20 CF__ 121500000000000\n\
+        \x20 samples 0 4 9 -10 11 -12\n\
+        end 10\n";
+    assert_eq!(dump(&recording("dropped-link.pxgf")), expected);
+}
+
+#[test]
+fn group() {
+    let text = dump(&recording("group.pxgf"));
+    let samples: Vec<&str> = text
+        .lines()
+        .filter(|line| line.starts_with("  samples"))
+        .collect();
+    assert_eq!(
+        samples,
+        [
+            "  samples 0 4 10 -1 50 -5",
+            "  samples 1 4 20 -2 60 -6",
+            "  samples 2 4 30 -3 70 -7",
+            "  samples 3 4 40 -4 80 -8",
+            "  samples 0 4 3F800000 BF000000 40A00000 C0200000",
+            "  samples 1 4 40000000 BF800000 40C00000 C0400000",
+            "  samples 2 4 40400000 BFC00000 40E00000 C0600000",
+            "  samples 3 4 40800000 C0000000 41000000 C0800000",
+            "  samples 0 4 -3 30 -4 40",
+            "  samples 1 4 -1 10 -2 20",
+            "  samples 2 4 -7 70 -8 80",
+            "  samples 3 4 -5 50 -6 60",
+        ]
+    );
+    assert!(text.contains("GSNC 36 bad 16\nend 12\n"));
+}
+
+#[test]
+fn little() {
+    let text = dump(&recording("little.pxgf"));
+    assert!(text.starts_with("pxgf little "));
+    // QI packing turns the pairs; a NaN keeps its bits.
+    assert!(text.contains("  samples 0 4 BE800000 3F000000 80000000 7FC01234\n"));
+    assert!(text.contains("  samples 0 3 3F800000 FFA00001 00000001\n"));
+    assert!(text.contains("  BW__ 3000000000 -1000000000\n"));
+}
+
+#[test]
+fn damaged() {
+    let expected = "pxgf big 108\n\
+        skip 0 5\n\
+        chunk 5 SIQP 4 bad 12\n\
+        chunk 21 TEXT 8 bad 14\n\
+        chunk 41 4E4F5445 4 unknown\n\
+        skip 57 12\n\
+        chunk 69 SSNC 12 wait 21\n\
+        cut 93 15\n\
+        end 7\n";
+    assert_eq!(list(&recording("damaged.pxgf")), expected);
+}
