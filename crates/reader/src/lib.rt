@@ -5,6 +5,7 @@ ghost use lib.ListN.{length, take, drop};
 ghost use Rattle.body.specs.Kind.{kindOf};
 ghost use Rattle.effect.specs.Effect.{effect};
 ghost use Rattle.effect.specs.Ready.{noState};
+ghost use Rattle.frame.specs.Frames.{width, first};
 ghost use Rattle.frame.specs.Place.{gap};
 ghost use Rattle.reader.specs.Items.{items};
 ghost use Rattle.reader.specs.Took.{Took};
@@ -200,18 +201,26 @@ fn stop(order: Order, s: &[u8], from: usize) -> usize
     }
 }
 
+// The place past the frame that stands at a place.
+fn past(order: Order, s: &[u8], place: usize) -> usize
+    requires { ⌜ place < length (now s) ⌝ }
+    ensures { λ r. ⌜ r ≡ place + width (first order (drop place (now (s .entry)))) ⌝ }
+{
+    match frame::look(order, s, place) {
+        At::Complete { code: _, size } => place + 12 + size,
+        At::Unfinished => s.len(),
+        At::NoSync | At::Bad => stop(order, s, place),
+    }
+}
+
 // How many items a stream has.
 pub fn count(order: Order, s: &[u8]) -> usize
     ensures { λ r. ⌜ r ≡ length (items order (now (s .entry))) ⌝ }
 {
     let mut n = 0;
-    let mut p = 0;
-    while p < s.len() {
-        match frame::look(order, s, p) {
-            At::Complete { code: _, size } => p += 12 + size,
-            At::Unfinished => p = s.len(),
-            At::NoSync | At::Bad => p = stop(order, s, p),
-        }
+    let mut place = 0;
+    while place < s.len() {
+        place = past(order, s, place);
         n += 1;
     }
     n

@@ -1,3 +1,7 @@
+use mathlib.Core.Path.{_≡_, ap, _∙_}
+use Rattle.num.specs.Answer.{gives}
+use Rattle.effect.specs.Says.{Says}
+use Rattle.reader.specs.Item.{Item}
 use borrow.Author.Needs.{needs}
 use Rattle.reader.proofs.chunk.Statement.{statement}
 use Rattle.reader.proofs.chunk.Tie as tie
@@ -29,7 +33,11 @@ take-requires c κs = search needs
 
 -- src/lib.rt:131:1
 returns : tie.Need-returns
-returns c = ?
+returns c =
+    let a = c .before .before .before .before .before .before .args in
+    let t = rw (c .before .before .before .kind-of .ensures, c .before .before .before .before .accept .ensures) at (c .before .before .take .ensures) in
+    let q = c .before .before .before .before .accept .ensures in
+    record { item = rw (← t .says); shown = t .shown; cursor = rw (q, t .after) }
 
 pub chunk-spec : {M : Type 1} → statement M
 chunk-spec =

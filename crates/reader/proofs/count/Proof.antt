@@ -1,74 +1,72 @@
+use Prim.Native.Nat.{ℕ, _+_, _-_, _≤_}
+use mathlib.Core.Path.{_≡_, refl, sym, ap, _∙_}
+use mathlib.Core.Bool.{false}
+use mathlib.Core.List.{[]}
+use native.Mathlib.Omega.{arith}
+use borrow.Author.Needs.{needs}
+use lib.ListN.{length, drop, drop-of-length-le}
+use Rattle.frame.specs.Frames.{frames, first, width}
+use Rattle.frame.proofs.Frames.{Moves, moves, frames-nil}
+use Rattle.effect.specs.Ready.{noState}
+use Rattle.reader.proofs.Theorems.{items-length}
 use Rattle.reader.proofs.count.Statement.{statement}
 use Rattle.reader.proofs.count.Tie as tie
 use Rattle.reader.proofs.count.Reads as reads
 use Rattle.reader.proofs.count.Lts as lts
-use Rattle.frame.proofs.look.Reads as look-reads
-use Rattle.reader.proofs.stop.Reads as stop-reads
+use Rattle.reader.proofs.past.Reads as past-reads
 
 abbrev Inv-loop : tie.InvT-loop
-Inv-loop order s n₀ p₀ n p = ?
+Inv-loop order s n₀ place₀ n place = (n ≤ place) × (place ≤ length s) × (n + length (frames order (drop place s)) ≡ length (frames order s))
 
 abbrev μ-loop : tie.MeasureT-loop
-μ-loop order s n₀ p₀ n p = ?
+μ-loop order s n₀ place₀ n place = length s - place
 
--- src/lib.rt:209:5
+-- src/lib.rt:222:5
 loop-holds : tie.Need-loop-holds Inv-loop μ-loop
-loop-holds c = ?
+loop-holds c = (omega arith, omega arith, omega arith)
 
--- src/lib.rt:210:15
-look-requires : tie.Need-look-requires Inv-loop μ-loop
-look-requires c κs = ?
+-- src/lib.rt:223:9
+past-requires : tie.Need-past-requires Inv-loop μ-loop
+past-requires c κs = search needs
 
--- src/lib.rt:211:37
-enum-known-size : tie.Need-enum-known-size Inv-loop μ-loop
-enum-known-size c = ?
-
--- src/lib.rt:211:52
-add-p : tie.Need-add-p Inv-loop μ-loop
-add-p c = ?
-
--- src/lib.rt:211:47
-add-p-2 : tie.Need-add-p-2 Inv-loop μ-loop
-add-p-2 c = ?
-
--- src/lib.rt:212:31
-enum-told : tie.Need-enum-told Inv-loop μ-loop
-enum-told c = ?
-
--- src/lib.rt:213:37
-stop-requires : tie.Need-stop-requires Inv-loop μ-loop
-stop-requires c κs = ?
-
--- src/lib.rt:215:9
+-- src/lib.rt:224:9
 add-n : tie.Need-add-n Inv-loop μ-loop
-add-n c = ?
+add-n c = search needs
 
--- src/lib.rt:209:5
+-- the frame that is passed
+moved : (c : tie.After-past Inv-loop μ-loop) →
+    let a = c .before .before .before .before .args in
+    let p = c .before .before .loop .place in
+    Moves (a .order) (a .s .now) p (width (first (a .order) (drop p (a .s .now))))
+moved c =
+    let a = c .before .before .before .before .args in
+    moves (a .order) (a .s .now) (c .before .before .loop .place) (c .before .loop-test .taken)
+
+-- src/lib.rt:222:5
 loop-less : tie.Need-loop-less Inv-loop μ-loop
-loop-less c = ?
+loop-less c =
+    let m = moved c in
+    omega (arith, m .some, m .fits, c .past .ensures)
 
--- src/lib.rt:209:5
+-- src/lib.rt:222:5
 loop-again : tie.Need-loop-again Inv-loop μ-loop
-loop-again c = ?
+loop-again c =
+    let l = c .before .before .loop in
+    let m = moved c in
+    let e = c .past .ensures in
+    let r = ap length (m .rest) in
+    (omega (arith, m .some, l .inv .0), omega (arith, m .fits), rw e (omega (arith, r, l .inv .2)))
 
--- src/lib.rt:204:1
+-- src/lib.rt:217:1
 returns : tie.Need-returns Inv-loop μ-loop
-returns c = ?
+returns c =
+    let a = c .before .before .before .args in
+    let l = c .before .loop in
+    let d : drop (l .place) (a .s .now) ≡ [] = drop-of-length-le (a .s .now) {i = l .place} (c .loop-test .left) in
+    let z : length (frames (a .order) (drop (l .place) (a .s .now))) ≡ 0 = rw d (ap length (frames-nil (a .order))) in
+    omega (arith, z, l .inv .2, items-length (a .order) 0 false noState (frames (a .order) (a .s .now)))
 
 pub count-spec : {M : Type 1} → statement M
 count-spec =
     tie.close
-    (tie.spec
-    Inv-loop
-    μ-loop
-    loop-holds
-    look-requires
-    enum-known-size
-    add-p
-    add-p-2
-    enum-told
-    stop-requires
-    add-n
-    loop-less
-    loop-again
-    returns)
+    (tie.spec Inv-loop μ-loop loop-holds past-requires add-n loop-less loop-again returns)

@@ -1,3 +1,8 @@
+use Prim.Native.Nat.{ℕ, _+_, _-_}
+use mathlib.Core.Path.{_≡_, ap}
+use native.Mathlib.Omega.{arith}
+use lib.ListN.{drop}
+use Rattle.frame.specs.Place.{gap}
 use borrow.Author.Needs.{needs}
 use Rattle.reader.proofs.skip.Statement.{statement}
 use Rattle.reader.proofs.skip.Tie as tie
@@ -25,7 +30,12 @@ empty-requires c κs = search needs
 
 -- src/lib.rt:174:1
 returns : tie.Need-returns
-returns c = ?
+returns c =
+    let a = c .before .before .before .before .args in
+    let g = gap (a .order) (drop (a .cursor .place) (a .s .now)) in
+    let t = c .before .before .stop in
+    let d : t .result - a .cursor .place ≡ g = omega (arith, t .ensures .0) in
+    record { item = rw d; shown = c .empty .ensures; cursor = rw (c .before .lose-step .ensures, t .ensures .0) }
 
 pub skip-spec : {M : Type 1} → statement M
 skip-spec = tie.close (tie.spec stop-requires lose-step-requires sub-t7 empty-requires returns)

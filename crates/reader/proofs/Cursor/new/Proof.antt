@@ -11,7 +11,7 @@ empty-requires c κs = search needs
 
 -- src/lib.rt:58:5
 returns : tie.Need-returns
-returns c = ?
+returns c = rw (c .empty .ensures)
 
 pub new-spec : {M : Type 1} → statement M
 new-spec = tie.close (tie.spec empty-requires returns)
