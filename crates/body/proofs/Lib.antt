@@ -3,4 +3,5 @@ pub mod Floats
 pub mod Lists
 pub mod Groups
 pub mod Texts
+pub mod Allowed
 pub mod Marked

@@ -1,0 +1,171 @@
+-- No chunk leaves a state that is not good, so number 3 is never given for a state that the reader made.
+use Prim.Native.Nat.{ℕ, suc, _+_, _*_, _≤_, _<_, _^_}
+use mathlib.Core.Path.{_≡_, refl, sym, ap, _∙_}
+use mathlib.Core.Bool.{Bool, true, false}
+use mathlib.Core.List.{List}
+use native.Mathlib.Omega.{arith}
+use lib.Dec.{eqb, ltb}
+use lib.Ieee.{Float, binary32, ofBits, lt}
+use lib.IntN.{ℤ, pos, negsuc, natAbs}
+use lib.Signed.{leZ}
+use mir.Syntax.{w32}
+use borrow.Author.Tests.{lt-ltb, ne-eqb}
+use Rattle.num.specs.Answer.{Answer, gives, refuses, then}
+use Rattle.num.specs.Choice.{pick, both, either}
+use Rattle.num.specs.Number.{unsignedAt}
+use Rattle.num.specs.declared.Order.{Order}
+use Rattle.body.specs.Check.{int32, int64, allowed}
+use Rattle.body.specs.Numbers.{siqp, sr, bw, cf, bwof}
+use Rattle.body.specs.Levels.{isFinite, finite32, dbfs, dbtg, ffs}
+use Rattle.body.specs.Lists.{each, sixteen}
+use Rattle.body.specs.Groups.{given, noPacking, noHertz, noGains, isNumber, headOk, offsetAt, offsetsOk, hertzAt, gainAt, gainsOk, packed, tuned, amplified, giqp, gcf, grg}
+use Rattle.body.specs.declared.kind.Kind.{Kind}
+use Rattle.body.specs.declared.kind.Kind.the-variants.{SSNC, SSNR, SFNC, SFNR, GSNC, GFNC, SIQP, SR, BW, GCBW, BWOF, CF, DBFS, DBTG, FFS, GIQP, GCF, GRG, SOFH, EOFH, IQDC, TEXT, Unknown}
+use Rattle.body.specs.declared.level.Level.{Level}
+use Rattle.body.specs.declared.level.Level.the-variants.{FullScale, TotalGain, FloatFullScale}
+use Rattle.body.specs.declared.number.Band.{Band}
+use Rattle.body.specs.declared.group.GroupPacking.{GroupPacking}
+use Rattle.body.specs.declared.group.GroupHertz.{GroupHertz}
+use Rattle.body.specs.declared.group.GroupGains.{GroupGains}
+use Rattle.body.proofs.Laws.{both-true}
+use Rattle.body.proofs.Lists.{each-at}
+use Rattle.body.proofs.Allowed.{sized-gives, finite-gives, then-gives, listed-gives, small32}
+use Rattle.state.specs.Good.{zeroOrOne, anyNumber, scale, offset, nothing, isZero, isPlusZero, goodNumber, goodBand, goodLevel, goodHead, goodList, goodGroup, goodFrequencies, goodGains, goodState}
+use Rattle.state.specs.declared.State.{State}
+use Rattle.state.proofs.Laws.{with-packing-good, with-rate-good, with-band-good, with-group-band-good, with-centre-good, with-full-scale-good, with-total-gain-good, with-float-scale-good, with-group-good, with-frequencies-good, with-gains-good, with-mark-good, no-number-good, no-band-good, no-level-good, no-packing-good, no-hertz-good, no-gains-good, upto-good}
+use Rattle.effect.specs.Effect.{held, centred, banded, amount, levelled, effect}
+
+-- a value that is given and allowed, or absent, is good
+held-good : (ok : ℤ → Bool) (a : Answer ℤ) → ((v : ℤ) → a ≡ gives v → ok v ≡ true) → goodNumber ok (held a) ≡ true
+held-good ok (gives v) h = h v refl
+held-good ok (refuses n) h = no-number-good ok
+
+centred-good : (a : Answer ℤ) → ((v : ℤ) → a ≡ gives v → leZ (pos 0) v ≡ true) → goodBand (centred a) ≡ true
+centred-good (gives v) h = h v refl
+centred-good (refuses n) h = no-band-good
+
+banded-good : (a : Answer Band) → ((b : Band) → a ≡ gives b → leZ (pos 0) (b .width) ≡ true) → goodBand (banded a) ≡ true
+banded-good (gives b) h = h b refl
+banded-good (refuses n) h = no-band-good
+
+levelled-good : (ok : Float → Bool) (a : Answer Level) → ((l : Level) → a ≡ gives l → ok (amount l) ≡ true) → goodLevel ok (levelled a) ≡ true
+levelled-good ok (gives l) h = h l refl
+levelled-good ok (refuses n) h = no-level-good ok
+
+given-good : {A : Type 0} (good : A → Bool) (none : A) (a : Answer A) → good none ≡ true → ((x : A) → a ≡ gives x → good x ≡ true) → good (given none a) ≡ true
+given-good good none (gives x) n h = h x refl
+given-good good none (refuses k) n h = n
+
+-- ---- what each kind gives
+
+siqp-good : (o : Order) (b : List ℕ) (v : ℤ) → siqp o b ≡ gives v → zeroOrOne v ≡ true
+siqp-good o b v e = let h = sized-gives 4 b (zeroOrOne (int32 o b 0)) (int32 o b 0) v e in sym (ap zeroOrOne (h .1)) ∙ h .0
+
+sr-good : (o : Order) (b : List ℕ) (v : ℤ) → sr o b ≡ gives v → leZ (pos 1) v ≡ true
+sr-good o b v e = let h = sized-gives 8 b (leZ (pos 1) (int64 o b 0)) (int64 o b 0) v e in sym (ap (leZ (pos 1)) (h .1)) ∙ h .0
+
+bw-good : (o : Order) (b : List ℕ) (v : ℤ) → bw o b ≡ gives v → leZ (pos 0) v ≡ true
+bw-good o b v e = let h = sized-gives 8 b (leZ (pos 0) (int64 o b 0)) (int64 o b 0) v e in sym (ap (leZ (pos 0)) (h .1)) ∙ h .0
+
+bwof-good : (o : Order) (b : List ℕ) (v : Band) → bwof o b ≡ gives v → leZ (pos 0) (v .width) ≡ true
+bwof-good o b v e =
+    let w : Band = record { width = int64 o b 0; offset = int64 o b 8 } in
+    let h = sized-gives 16 b (leZ (pos 0) (int64 o b 0)) w v e in
+    sym (ap (λ (x : Band). leZ (pos 0) (x .width)) (h .1)) ∙ h .0
+
+level-good : (o : Order) (b : List ℕ) (f : Float → Level) (l : Level) → ((x : Float) → amount (f x) ≡ x) → then (finite32 o b) (λ x. gives (f x)) ≡ gives l → isFinite (amount l) ≡ true
+level-good o b f l q e =
+    let h = then-gives (finite32 o b) (λ (x : Float). gives (f x)) l e in
+    let i : f (h .0) ≡ l = gives-one (h .2) in
+    sym (ap (λ (y : Level). isFinite (amount y)) i) ∙ rw (q (h .0)) (finite-gives o b (h .0) (h .1))
+  where
+    gives-one : {A : Type 0} {a c : A} → _≡_ {A = Answer A} (gives a) (gives c) → a ≡ c
+    gives-one k = cc
+
+allowed-by : {A : Type 0} (ok : Bool) (v w : A) → allowed ok v ≡ gives w → (ok ≡ true) × (v ≡ w)
+allowed-by true v w e = (refl, cc)
+allowed-by false v w e = let z : _≡_ {A = ℕ} 0 1 = cc in absurd (omega arith)
+
+ffs-good : (o : Order) (b : List ℕ) (l : Level) → ffs o b ≡ gives l → scale (amount l) ≡ true
+ffs-good o b l e =
+    let f : Float → Answer Level = λ (x : Float). allowed (lt (ofBits binary32 0) x) (FloatFullScale x) in
+    let h = then-gives (finite32 o b) f l e in
+    let x = h .0 in
+    let k = allowed-by (lt (ofBits binary32 0) x) (FloatFullScale x) l (h .2) in
+    sym (ap (λ (y : Level). scale (amount y)) (k .1)) ∙ rw (finite-gives o b x (h .1), k .0)
+
+either-by : (z : ℤ) (n : ℕ) → either (isNumber 1 z) (isNumber n z) ≡ true → either (eqb (natAbs z) 1) (eqb (natAbs z) n) ≡ true
+either-by (pos m) n h = h
+either-by (negsuc m) n h = let z : _≡_ {A = ℕ} 0 1 = cc in absurd (omega arith)
+
+offset-small : (o : Order) (b : List ℕ) (c : ℕ) → leZ (pos 0) (offsetAt o b c) ≡ true → offset (natAbs (offsetAt o b c)) ≡ true
+unfolding offsetAt
+offset-small o b c h = lt-ltb (natAbs (offsetAt o b c)) (2 ^ 31) (small32 (unsignedAt 4 o b (12 + 4 * c)) h)
+
+plus-zero : isPlusZero (ofBits binary32 0) ≡ true
+unfolding ofBits
+plus-zero = refl
+
+giqp-good : (o : Order) (b : List ℕ) (g : GroupPacking) → giqp o b ≡ gives g → goodGroup g ≡ true
+unfolding packed
+giqp-good o b g e =
+    let h = listed-gives 12 4 o b (packed o b) g e in
+    let n = h .0 in
+    let z = int32 o b 8 in
+    let v : GroupPacking = record { n = n; iq = isNumber 1 (int32 o b 4); increment = natAbs z; offsets = sixteen (λ c. natAbs (offsetAt o b c)) 0 n } in
+    let k = allowed-by (both (headOk n (int32 o b 4) z) (offsetsOk o b n)) v g (h .3) in
+    let t = both-true (headOk n (int32 o b 4) z) (offsetsOk o b n) (k .0) in
+    let d = both-true (either (isNumber 0 (int32 o b 4)) (isNumber 1 (int32 o b 4))) (either (isNumber 1 z) (isNumber n z)) (t .0) in
+    let used : (c : ℕ) → c < n → offset (natAbs (offsetAt o b c)) ≡ true =
+    λ c q. offset-small o b c (each-at (λ (i : ℕ). leZ (pos 0) (offsetAt o b i)) n c (t .1) q) in
+    let l : goodList offset nothing n (sixteen (λ c. natAbs (offsetAt o b c)) 0 n) ≡ true =
+    upto-good offset nothing (λ (c : ℕ). natAbs (offsetAt o b c)) 0 n used refl (h .2) in
+    sym (ap goodGroup (k .1)) ∙ rw (ne-eqb n 0 (λ q. omega (arith, h .1)), either-by z n (d .1)) l
+
+gcf-good : (o : Order) (b : List ℕ) (g : GroupHertz) → gcf o b ≡ gives g → goodFrequencies g ≡ true
+unfolding tuned
+gcf-good o b g e =
+    let h = listed-gives 4 8 o b (tuned o b) g e in
+    let n = h .0 in
+    let v : GroupHertz = record { n = n; values = sixteen (hertzAt o b) (pos 0) n } in
+    let k = allowed-by true v g (h .3) in
+    sym (ap goodFrequencies (k .1)) ∙ upto-good anyNumber isZero (hertzAt o b) (pos 0) n (λ c q. refl) refl (h .2)
+
+grg-good : (o : Order) (b : List ℕ) (g : GroupGains) → grg o b ≡ gives g → goodGains g ≡ true
+unfolding amplified
+grg-good o b g e =
+    let h = listed-gives 4 4 o b (amplified o b) g e in
+    let n = h .0 in
+    let v : GroupGains = record { n = n; values = sixteen (gainAt o b) (ofBits binary32 0) n } in
+    let k = allowed-by (gainsOk o b n) v g (h .3) in
+    let used : (c : ℕ) → c < n → isFinite (gainAt o b c) ≡ true = λ c q. each-at (λ (i : ℕ). isFinite (gainAt o b i)) n c (k .0) q in
+    sym (ap goodGains (k .1)) ∙ upto-good isFinite isPlusZero (gainAt o b) (ofBits binary32 0) n used plus-zero (h .2)
+
+-- ---- each kind
+
+module _ (o : Order) (b : List ℕ) (s : State) (g : goodState s ≡ true) where
+  pub effect-good : (k : Kind) → goodState (effect o k b s .after) ≡ true
+  unfolding effect
+  effect-good SIQP = with-packing-good s (held (siqp o b)) g (held-good zeroOrOne (siqp o b) (siqp-good o b))
+  effect-good SR = with-rate-good s (held (sr o b)) g (held-good (leZ (pos 1)) (sr o b) (sr-good o b))
+  effect-good BW = with-band-good s (centred (bw o b)) g (centred-good (bw o b) (bw-good o b))
+  effect-good BWOF = with-band-good s (banded (bwof o b)) g (banded-good (bwof o b) (bwof-good o b))
+  effect-good GCBW = with-group-band-good s (held (bw o b)) g (held-good (leZ (pos 0)) (bw o b) (bw-good o b))
+  effect-good CF = with-centre-good s (held (cf o b)) g (held-good anyNumber (cf o b) (λ v e. refl))
+  effect-good DBFS = with-full-scale-good s (levelled (dbfs o b)) g (levelled-good isFinite (dbfs o b) (λ l e. level-good o b FullScale l (λ x. refl) e))
+  effect-good DBTG = with-total-gain-good s (levelled (dbtg o b)) g (levelled-good isFinite (dbtg o b) (λ l e. level-good o b TotalGain l (λ x. refl) e))
+  effect-good FFS = with-float-scale-good s (levelled (ffs o b)) g (levelled-good scale (ffs o b) (ffs-good o b))
+  effect-good GIQP = with-group-good s (given noPacking (giqp o b)) g (given-good goodGroup noPacking (giqp o b) no-packing-good (giqp-good o b))
+  effect-good GCF = with-frequencies-good s (given noHertz (gcf o b)) g (given-good goodFrequencies noHertz (gcf o b) no-hertz-good (gcf-good o b))
+  effect-good GRG = with-gains-good s (given noGains (grg o b)) g (given-good goodGains noGains (grg o b) no-gains-good (grg-good o b))
+  effect-good SOFH = g
+  effect-good EOFH = g
+  effect-good TEXT = g
+  effect-good IQDC = with-mark-good s _ g
+  effect-good Unknown = g
+  effect-good SSNC = with-mark-good s _ g
+  effect-good SSNR = with-mark-good s _ g
+  effect-good SFNC = with-mark-good s _ g
+  effect-good SFNR = with-mark-good s _ g
+  effect-good GSNC = with-mark-good s _ g
+  effect-good GFNC = with-mark-good s _ g
