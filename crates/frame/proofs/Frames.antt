@@ -190,3 +190,22 @@ moves-by o s p x l e h =
 
 pub moves : (o : Order) (s : List ℕ) (p : ℕ) → p < length s → Moves o s p (width (first o (drop p s)))
 moves o s p h = moves-by o s p (getD s p 0) (drop (suc p) s) (drop-cons s p 0 h) h
+
+-- the frames from a place on, by what stands there
+module _ (o : Order) (s : List ℕ) (p : ℕ) (h : p < length s) where
+  pub frames-chunk : (t n : ℕ) → shows o (drop p s) ≡ Complete t n → frames o (drop p s) ≡ chunk t (take n (drop 12 (drop p s))) ∷ frames o (drop (p + 12 + n) s)
+  frames-chunk t n e =
+      let q : p + width (first o (drop p s)) ≡ p + 12 + n = omega (arith, width-complete o (drop p s) t n e) in
+      moves o s p h .rest ∙ rw (q, e)
+
+  pub frames-cut : shows o (drop p s) ≡ Unfinished → frames o (drop p s) ≡ unfinished (drop p s) ∷ frames o (drop (p + length (drop p s)) s)
+  frames-cut e = moves o s p h .rest ∙ rw (width-cut o (drop p s) e, e)
+
+  passed : (a : At) → shows o (drop p s) ≡ a → stops a ≡ false → first o (drop p s) ≡ skipped (take (gap o (drop p s)) (drop p s))
+  passed NoSync e k = rw e
+  passed Bad e k = rw e
+  passed Unfinished e k = let z : _≡_ {A = ℕ} 0 1 = cc in absurd (omega arith)
+  passed (Complete t n) e k = let z : _≡_ {A = ℕ} 0 1 = cc in absurd (omega arith)
+
+  pub frames-skip : stops (shows o (drop p s)) ≡ false → frames o (drop p s) ≡ skipped (take (gap o (drop p s)) (drop p s)) ∷ frames o (drop (p + gap o (drop p s)) s)
+  frames-skip k = moves o s p h .rest ∙ rw (width-skip o (drop p s) k, passed (shows o (drop p s)) refl k)

@@ -4,15 +4,31 @@ use mathlib.Core.Path.{_≡_, refl, ap, sym, _∙_}
 use mathlib.Core.Bool.{Bool, true, false, not}
 use mathlib.Core.List.{List, [], _∷_}
 use native.Mathlib.Omega.{arith}
-use lib.ListN.{length, drop, length-drop}
+use lib.Dec.{ltb}
+use lib.ListN.{length, take, drop, length-drop, drop-of-length-le}
+use lib.Seq.{length-take-le}
+use borrow.Author.Tests.{not-false, ltb-true, ltb-false}
+use Rattle.num.specs.Answer.{Answer, gives, refuses}
+use Rattle.num.specs.Choice.{pick, both}
 use Rattle.num.specs.declared.Order.{Order}
-use Rattle.frame.specs.Frames.{Frame}
+use Rattle.frame.specs.Frames.{Frame, frames, first, width}
 use Rattle.frame.specs.Frames as Frames
+use Rattle.frame.specs.Place.{shows, gap, stops}
+use Rattle.frame.specs.declared.At.{At}
+use Rattle.frame.specs.declared.At.the-variants.{NoSync, Bad, Unfinished, Complete}
+use Rattle.frame.proofs.Frames.{complete, gap-le, frames-nil, frames-chunk, frames-cut, frames-skip}
+use Rattle.frame.proofs.Laws.{gap-step}
 use Rattle.body.specs.Kind.{kindOf}
+use Rattle.state.specs.Good.{goodState}
 use Rattle.state.specs.declared.State.{State}
+use Rattle.state.proofs.Laws.{empty-good}
 use Rattle.effect.specs.Effect.{effect}
-use Rattle.reader.specs.Step.{before}
-use Rattle.reader.specs.Items.{Given, itemsFrom}
+use Rattle.effect.proofs.Good.{effect-good}
+use Rattle.reader.specs.Item.{Item, end, skipped, unfinished, chunk}
+use Rattle.reader.specs.Step.{Step, newCursor, before, refused, skips, stepBy, stepAhead, stepOf}
+use Rattle.reader.specs.Items.{Given, itemsFrom, items}
+use Rattle.reader.specs.declared.Cursor.{Cursor}
+use Rattle.reader.proofs.Laws.{unfit, step-end, step-ahead, chunk-ends, chunk-size}
 
 -- an item for each frame
 pub items-length : (o : Order) (p : ℕ) (step : Bool) (s : State) (fs : List Frame) → length (itemsFrom o p step s fs) ≡ length fs
@@ -22,3 +38,122 @@ items-length o p step s (Frames.chunk code body ∷ rest) =
     ap suc (items-length o (p + 12 + length body) true (effect o (kindOf code) body (before step s) .after) rest)
 items-length o p step s (Frames.skipped bytes ∷ rest) = ap suc (items-length o (p + length bytes) false s rest)
 items-length o p step s (Frames.unfinished bytes ∷ rest) = ap suc (items-length o (p + length bytes) step s rest)
+
+-- ---- a cursor that the reader gave is never refused with 3
+
+-- number 3 is not due
+abbrev pub Fit : Cursor → Type 0
+Fit c = unfit c ≡ false
+
+pub new-fit : Fit newCursor
+new-fit = refl
+
+-- the state before a chunk takes effect is good
+before-good : (step : Bool) (s : State) → both step (not (goodState s)) ≡ false → goodState (before step s) ≡ true
+before-good true s h = not-false (goodState s) h
+before-good false s h = empty-good true
+
+fit-by : (o : Order) (l : List ℕ) (c : Cursor) (a : At) → Fit c → Fit (stepBy o l c a .cursor)
+fit-by o l c (Complete code size) h =
+    rw (effect-good o (take size (drop 12 l)) (before (c .«in_step») (c .state)) (before-good (c .«in_step») (c .state) h) (kindOf code))
+fit-by o l c Unfinished h = h
+fit-by o l c NoSync h = refl
+fit-by o l c Bad h = refl
+
+fit-ahead : (o : Order) (l : List ℕ) (c : Cursor) → Fit c → Fit (stepAhead o l c .cursor)
+fit-ahead o [] c h = h
+fit-ahead o (x ∷ l) c h = fit-by o (x ∷ l) c (shows o (x ∷ l)) h
+
+fit-past : (o : Order) (s : List ℕ) (c : Cursor) (b : Bool) → ltb (length s) (c .place) ≡ b → Fit c → Fit (pick b (refused 2 c) (stepAhead o (drop (c .place) s) c) .cursor)
+fit-past o s c true e h = h
+fit-past o s c false e h = fit-ahead o (drop (c .place) s) c h
+
+-- a step leaves a cursor that is fit where it came fit, so from a new cursor on number 3 is never due
+pub step-keeps-fit : (o : Order) (s : List ℕ) (c : Cursor) → Fit c → Fit (stepOf o s c .cursor)
+unfolding stepOf
+step-keeps-fit o s c h = rw h (fit-past o s c (ltb (length s) (c .place)) refl h)
+
+-- ---- stepping from a new cursor to End gives the items
+
+-- the items that steps give, up to End or a refusal, at most as many as there is fuel
+abbrev pub told : Answer Item → State → List Given → List Given
+told (refuses n) shown rest = []
+told (gives end) shown rest = []
+told (gives (skipped p n)) shown rest = record { item = skipped p n; shown = shown } ∷ rest
+told (gives (unfinished p n)) shown rest = record { item = unfinished p n; shown = shown } ∷ rest
+told (gives (chunk p code size says)) shown rest = record { item = chunk p code size says; shown = shown } ∷ rest
+
+unfoldable pub reading : ℕ → Order → List ℕ → Cursor → List Given
+reading zero o s c = []
+reading (suc f) o s c =
+    let t : Step = stepOf o s c in
+    told (t .item) (t .shown) (reading f o s (t .cursor))
+
+-- what a cursor is to give: the frames ahead of it, read as it stands
+abbrev pub ahead : Order → List ℕ → Cursor → List Given
+ahead o s c = itemsFrom o (c .place) (c .«in_step») (c .state) (frames o (drop (c .place) s))
+
+-- one step, by what stands there, and then what is ahead of the cursor that it leaves
+module _ (o : Order) (s : List ℕ) (c : Cursor) (h : c .place < length s) where
+  skip-one : stops (shows o (drop (c .place) s)) ≡ false →
+      let t : Step = skips c (gap o (drop (c .place) s)) in
+      ahead o s c ≡ told (t .item) (t .shown) (ahead o s (t .cursor))
+  unfolding itemsFrom
+  skip-one k =
+      ap (itemsFrom o (c .place) (c .«in_step») (c .state)) (frames-skip o s (c .place) h k)
+      ∙ rw (length-take-le (gap o (drop (c .place) s)) (drop (c .place) s) (gap-le o (drop (c .place) s)))
+
+  one-by : (a : At) → shows o (drop (c .place) s) ≡ a →
+      let t : Step = stepBy o (drop (c .place) s) c a in
+      ahead o s c ≡ told (t .item) (t .shown) (ahead o s (t .cursor))
+  unfolding itemsFrom
+  one-by (Complete code size) e =
+      ap (itemsFrom o (c .place) (c .«in_step») (c .state)) (frames-chunk o s (c .place) h code size e)
+      ∙ rw (chunk-size o s (c .place) code size e)
+  one-by Unfinished e = ap (itemsFrom o (c .place) (c .«in_step») (c .state)) (frames-cut o s (c .place) h e)
+  one-by NoSync e = skip-one (rw e)
+  one-by Bad e = skip-one (rw e)
+
+  one : Fit c → let t : Step = stepOf o s c in ahead o s c ≡ told (t .item) (t .shown) (ahead o s (t .cursor))
+  one f = rw (step-ahead o s c h f) (one-by (shows o (drop (c .place) s)) refl)
+
+-- the cursor moves on, and not past the end
+record Goes (s : List ℕ) (c d : Cursor) : Type 0 where
+  on : c .place < d .place
+  within : d .place ≤ length s
+
+passed-on : (o : Order) (s : List ℕ) (c : Cursor) → c .place < length s → stops (shows o (drop (c .place) s)) ≡ false → Goes s c (skips c (gap o (drop (c .place) s)) .cursor)
+passed-on o s c h k =
+    let n = length-drop (c .place) s in
+    record { on = omega (arith, gap-step o s (c .place) h k); within = omega (arith, gap-le o (drop (c .place) s)) }
+
+goes-by : (o : Order) (s : List ℕ) (c : Cursor) (a : At) → shows o (drop (c .place) s) ≡ a → c .place < length s → Goes s c (stepBy o (drop (c .place) s) c a .cursor)
+goes-by o s c (Complete code size) e h = record { on = omega arith; within = omega (arith, chunk-ends o s (c .place) code size e) }
+goes-by o s c Unfinished e h = let n = length-drop (c .place) s in record { on = omega arith; within = omega arith }
+goes-by o s c NoSync e h = passed-on o s c h (rw e)
+goes-by o s c Bad e h = passed-on o s c h (rw e)
+
+goes : (o : Order) (s : List ℕ) (c : Cursor) → Fit c → c .place < length s → Goes s c (stepOf o s c .cursor)
+goes o s c f h = rw (step-ahead o s c h f) (goes-by o s c (shows o (drop (c .place) s)) refl h)
+
+-- steps from a cursor that is fit give what is ahead of it
+reads-by : (f : ℕ) (o : Order) (s : List ℕ) (c : Cursor) (b : Bool) → ltb (c .place) (length s) ≡ b → Fit c → c .place ≤ length s → length s < c .place + suc f →
+    ((d : Cursor) → Fit d → d .place ≤ length s → length s < d .place + f → reading f o s d ≡ ahead o s d) → reading (suc f) o s c ≡ ahead o s c
+unfolding reading itemsFrom
+reads-by f o s c true e k h n r =
+    let q = ltb-true (c .place) (length s) e in
+    let g = goes o s c k q in
+    let t : Step = stepOf o s c in
+    ap (told (t .item) (t .shown)) (r (t .cursor) (step-keeps-fit o s c k) (g .within) (omega (arith, g .on))) ∙ sym (one o s c q k)
+reads-by f o s c false e k h n r =
+    let q = ltb-false (c .place) (length s) e in
+    let d : drop (c .place) s ≡ [] = drop-of-length-le s {i = c .place} q in
+    rw (step-end o s c (omega arith) k, d, frames-nil o)
+
+pub reads : (f : ℕ) (o : Order) (s : List ℕ) (c : Cursor) → Fit c → c .place ≤ length s → length s < c .place + f → reading f o s c ≡ ahead o s c
+reads zero o s c k h n = absurd (omega arith)
+reads (suc f) o s c k h n = reads-by f o s c (ltb (c .place) (length s)) refl k h n (λ d. reads f o s d)
+
+-- from a new cursor, they give the items of the stream
+pub reading-items : (o : Order) (s : List ℕ) → reading (suc (length s)) o s newCursor ≡ items o s
+reading-items o s = reads (suc (length s)) o s newCursor new-fit (omega arith) (omega arith)

@@ -159,15 +159,18 @@ fn cut(left: usize, cursor: Cursor) -> Stepped
     ensures { λ r. ⌜ Took r (cuts cursor left) ⌝ }
 {
     let place = cursor.place;
-    let mut next = cursor;
-    next.place = place + left;
+    let state = cursor.state;
     Stepped {
         item: Item::Unfinished {
             place,
             length: left,
         },
         shown: State::empty(false),
-        cursor: next,
+        cursor: Cursor {
+            place: place + left,
+            in_step: cursor.in_step,
+            state,
+        },
     }
 }
 

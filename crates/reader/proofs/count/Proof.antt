@@ -1,5 +1,6 @@
-use Prim.Native.Nat.{ℕ, _+_, _-_, _≤_}
-use mathlib.Core.Path.{_≡_, refl, sym, ap, _∙_}
+-- The frames passed and the frames ahead are as many as the stream has; an item is had for each.
+use Prim.Native.Nat.{_+_, _-_, _≤_}
+use mathlib.Core.Path.{_≡_, ap}
 use mathlib.Core.Bool.{false}
 use mathlib.Core.List.{[]}
 use native.Mathlib.Omega.{arith}
@@ -11,9 +12,6 @@ use Rattle.effect.specs.Ready.{noState}
 use Rattle.reader.proofs.Theorems.{items-length}
 use Rattle.reader.proofs.count.Statement.{statement}
 use Rattle.reader.proofs.count.Tie as tie
-use Rattle.reader.proofs.count.Reads as reads
-use Rattle.reader.proofs.count.Lts as lts
-use Rattle.reader.proofs.past.Reads as past-reads
 
 abbrev Inv-loop : tie.InvT-loop
 Inv-loop order s n₀ place₀ n place = (n ≤ place) × (place ≤ length s) × (n + length (frames order (drop place s)) ≡ length (frames order s))
@@ -21,15 +19,12 @@ Inv-loop order s n₀ place₀ n place = (n ≤ place) × (place ≤ length s) �
 abbrev μ-loop : tie.MeasureT-loop
 μ-loop order s n₀ place₀ n place = length s - place
 
--- src/lib.rt:222:5
 loop-holds : tie.Need-loop-holds Inv-loop μ-loop
 loop-holds c = (omega arith, omega arith, omega arith)
 
--- src/lib.rt:223:9
 past-requires : tie.Need-past-requires Inv-loop μ-loop
 past-requires c κs = search needs
 
--- src/lib.rt:224:9
 add-n : tie.Need-add-n Inv-loop μ-loop
 add-n c = search needs
 
@@ -42,13 +37,11 @@ moved c =
     let a = c .before .before .before .before .args in
     moves (a .order) (a .s .now) (c .before .before .loop .place) (c .before .loop-test .taken)
 
--- src/lib.rt:222:5
 loop-less : tie.Need-loop-less Inv-loop μ-loop
 loop-less c =
     let m = moved c in
     omega (arith, m .some, m .fits, c .past .ensures)
 
--- src/lib.rt:222:5
 loop-again : tie.Need-loop-again Inv-loop μ-loop
 loop-again c =
     let l = c .before .before .loop in
@@ -57,7 +50,6 @@ loop-again c =
     let r = ap length (m .rest) in
     (omega (arith, m .some, l .inv .0), omega (arith, m .fits), rw e (omega (arith, r, l .inv .2)))
 
--- src/lib.rt:217:1
 returns : tie.Need-returns Inv-loop μ-loop
 returns c =
     let a = c .before .before .before .args in

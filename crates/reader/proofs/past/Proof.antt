@@ -1,33 +1,25 @@
+-- The first frame's width, by what stands there.
 use mathlib.Core.Bool.{false}
 use mathlib.Core.Path.{_≡_, sym, _∙_}
 use native.Mathlib.Omega.{arith}
 use lib.ListN.{drop, length-drop}
 use Rattle.frame.specs.Place.{shows, stops}
-use Rattle.frame.specs.declared.At.the-variants.{Complete}
 use Rattle.frame.proofs.Frames.{width-complete, width-cut, width-skip}
 use Rattle.frame.proofs.Laws.{pass-told}
 use Rattle.reader.proofs.Laws.{chunk-ends}
 use borrow.Author.Needs.{needs}
 use Rattle.reader.proofs.past.Statement.{statement}
 use Rattle.reader.proofs.past.Tie as tie
-use Rattle.reader.proofs.past.Reads as reads
-use Rattle.reader.proofs.past.Lts as lts
-use Rattle.frame.proofs.look.Reads as look-reads
-use Rattle.reader.proofs.stop.Reads as stop-reads
 
--- src/lib.rt:209:11
 look-requires : tie.Need-look-requires
 look-requires c κs = search needs
 
--- src/lib.rt:210:33
 enum-known-size : tie.Need-enum-known-size
 enum-known-size c = search needs
 
--- src/lib.rt:210:43
 add-result : tie.Need-add-result
 add-result c = search needs
 
--- src/lib.rt:210:43
 add-result-2 : tie.Need-add-result-2
 add-result-2 c =
     let a = c .before .before .before .before .before .args in
@@ -35,15 +27,12 @@ add-result-2 c =
     let e = sym (c .before .before .before .look .ensures) ∙ n .1 in
     record { fits = omega (arith, chunk-ends (a .order) (a .s .now) (a .place) (n .0 .0) (n .0 .1 .0) e) }
 
--- src/lib.rt:211:27
 enum-told : tie.Need-enum-told
 enum-told c = search needs
 
--- src/lib.rt:212:33
 stop-requires : tie.Need-stop-requires
 stop-requires c κs = search needs
 
--- src/lib.rt:205:1
 returns : tie.Need-returns
 returns c =
     let a = c .before .before .before .before .before .args in
@@ -51,14 +40,12 @@ returns c =
     let e = sym (c .before .before .before .look .ensures) ∙ n .1 in
     omega (arith, width-complete (a .order) (drop (a .place) (a .s .now)) (n .0 .0) (n .0 .1 .0) e)
 
--- src/lib.rt:205:1
 returns-2 : tie.Need-returns-2
 returns-2 c =
     let a = c .before .before .before .before .args in
     let e = sym (c .before .before .look .ensures) ∙ c .enum-told .given .1 in
     omega (arith, width-cut (a .order) (drop (a .place) (a .s .now)) e, length-drop (a .place) (a .s .now))
 
--- src/lib.rt:205:1
 returns-3 : tie.Need-returns-3
 returns-3 c =
     let a = c .before .before .before .before .args in

@@ -1,34 +1,25 @@
-use Prim.Native.Nat.{ℕ, _+_, _-_}
-use mathlib.Core.Path.{_≡_, ap}
+-- The search stops at the place and gap that the rule names.
+use Prim.Native.Nat.{_-_}
+use mathlib.Core.Path.{_≡_}
 use native.Mathlib.Omega.{arith}
 use lib.ListN.{drop}
 use Rattle.frame.specs.Place.{gap}
 use borrow.Author.Needs.{needs}
 use Rattle.reader.proofs.skip.Statement.{statement}
 use Rattle.reader.proofs.skip.Tie as tie
-use Rattle.reader.proofs.skip.Reads as reads
-use Rattle.reader.proofs.skip.Lts as lts
-use Rattle.reader.proofs.Cursor.lose_step.Reads as lose-step-reads
-use Rattle.reader.proofs.stop.Reads as stop-reads
-use Rattle.state.proofs.State.empty.Reads as empty-reads
 
--- src/lib.rt:179:9
 stop-requires : tie.Need-stop-requires
 stop-requires c κs = search needs
 
--- src/lib.rt:180:9
 lose-step-requires : tie.Need-lose-step-requires
 lose-step-requires c κs = search needs
 
--- src/lib.rt:185:21
 sub-t7 : tie.Need-sub-t7
 sub-t7 c = search needs
 
--- src/lib.rt:187:16
 empty-requires : tie.Need-empty-requires
 empty-requires c κs = search needs
 
--- src/lib.rt:174:1
 returns : tie.Need-returns
 returns c =
     let a = c .before .before .before .before .args in

@@ -1,4 +1,5 @@
-use mathlib.Core.Path.{_≡_, sym, _∙_}
+-- The search's place, or the end where it found none.
+use mathlib.Core.Path.{sym, _∙_}
 use native.Mathlib.Omega.{arith}
 use lib.ListN.{drop, length-drop}
 use Rattle.frame.proofs.Frames.{gap-le}
@@ -6,23 +7,16 @@ use Rattle.frame.proofs.Laws.{search-at, search-end}
 use borrow.Author.Needs.{needs}
 use Rattle.reader.proofs.stop.Statement.{statement}
 use Rattle.reader.proofs.stop.Tie as tie
-use Rattle.reader.proofs.stop.Reads as reads
-use Rattle.reader.proofs.stop.Lts as lts
-use Rattle.frame.proofs.search.Reads as search-reads
 
--- src/lib.rt:197:11
 search-requires : tie.Need-search-requires
 search-requires c κs = search needs
 
--- src/lib.rt:198:22
 enum-known-p : tie.Need-enum-known-p
 enum-known-p c = search needs
 
--- src/lib.rt:199:27
 enum-told : tie.Need-enum-told
 enum-told c = search needs
 
--- src/lib.rt:193:1
 returns : tie.Need-returns
 returns c =
     let a = c .before .before .before .before .before .args in
@@ -30,7 +24,6 @@ returns c =
     let h = search-at (a .order) (a .s .now) (a .from) (c .before .p .given .0 .0) e in
     (sym (h .0), omega (arith, h .1))
 
--- src/lib.rt:193:1
 returns-2 : tie.Need-returns-2
 returns-2 c =
     let a = c .before .before .before .before .args in

@@ -1,7 +1,8 @@
+-- The tests come in the rule's order; then each case of what stands at the place is a step of that case.
 use mathlib.Core.Bool.{true, false}
-use mathlib.Core.Path.{_≡_, refl, sym, ap, _∙_}
+use mathlib.Core.Path.{_≡_, sym, _∙_}
 use native.Mathlib.Omega.{arith}
-use lib.ListN.{length, drop, length-drop}
+use lib.ListN.{drop, length-drop}
 use Rattle.frame.specs.Place.{shows}
 use Rattle.frame.specs.declared.At.the-variants.{Complete}
 use Rattle.frame.proofs.Laws.{pass-told}
@@ -10,34 +11,21 @@ use Rattle.reader.proofs.Laws.{unfit, step-past, step-unfit, step-end, 
 use borrow.Author.Needs.{needs}
 use Rattle.reader.proofs.Cursor.step.Statement.{statement}
 use Rattle.reader.proofs.Cursor.step.Tie as tie
-use Rattle.reader.proofs.Cursor.step.Reads as reads
-use Rattle.reader.proofs.Cursor.step.Lts as lts
-use Rattle.frame.proofs.look.Reads as look-reads
-use Rattle.reader.proofs.chunk.Reads as chunk-reads
-use Rattle.reader.proofs.cut.Reads as cut-reads
-use Rattle.reader.proofs.skip.Reads as skip-reads
-use Rattle.reader.proofs.still.Reads as still-reads
-use Rattle.state.proofs.State.good.Reads as good-reads
 
--- src/lib.rt:98:13
 still-requires : tie.Need-still-requires
 still-requires c κs = search needs
 
--- src/lib.rt:98:13
 returns : tie.Need-returns
 returns c =
     let a = c .before .before .before .args in
     rw (step-past (a .order) (a .s .now) (a .self) (c .before .if1 .taken)) (still-took (c .still .ensures))
 
--- src/lib.rt:101:28
 good-requires : tie.Need-good-requires
 good-requires c κs = search needs
 
--- src/lib.rt:102:13
 still-requires-2 : tie.Need-still-requires-2
 still-requires-2 c κs = search needs
 
--- src/lib.rt:102:13
 returns-2 : tie.Need-returns-2
 returns-2 c =
     let a = c .before .before .before .before .before .before .before .args in
@@ -48,11 +36,9 @@ returns-2 c =
 fit : (c : tie.Else2) → unfit (c .before .before .before .before .before .before .args .self) ≡ false
 fit c = rw (← c .before .before .good2 .ensures) (c .if2 .left)
 
--- src/lib.rt:105:13
 still-requires-3 : tie.Need-still-requires-3
 still-requires-3 c κs = search needs
 
--- src/lib.rt:105:13
 returns-3 : tie.Need-returns-3
 returns-3 c =
     let a = c .before .before .before .before .before .before .before .before .args in
@@ -72,39 +58,31 @@ ahead c =
     let a = c .before .before .before .before .before .before .before .before .args in
     step-ahead (a .order) (a .s .now) (a .self) (omega arith) (fit (c .before .before)) ∙ rw (← c .look .ensures)
 
--- src/lib.rt:107:15
 look-requires : tie.Need-look-requires
 look-requires c κs = search needs
 
--- src/lib.rt:108:28
 enum-known-code : tie.Need-enum-known-code
 enum-known-code c = search needs
 
--- src/lib.rt:109:28
 add-from : tie.Need-add-from
 add-from c = search needs
 
--- src/lib.rt:110:26
 add-to : tie.Need-add-to
 add-to c =
     let a = c .before .before .before .before .before .before .before .before .before .before .before .args in
     record { fits = omega (arith, chunk-ends (a .order) (a .s .now) (a .self .place) (c .before .code .given .0 .0) (c .before .code .given .0 .1 .0) (told c)) }
 
--- src/lib.rt:111:36
 sub-chunk : tie.Need-sub-chunk
 sub-chunk c = search needs
 
--- src/lib.rt:111:36
 part-chunk-start : tie.Need-part-chunk-start
 part-chunk-start c = search needs
 
--- src/lib.rt:111:36
 part-chunk-end : tie.Need-part-chunk-end
 part-chunk-end c =
     let a = c .before .before .before .before .before .before .before .before .before .before .before .args in
     chunk-ends (a .order) (a .s .now) (a .self .place) (c .before .code .given .0 .0) (c .before .code .given .0 .1 .0) (told c)
 
--- src/lib.rt:111:17
 chunk-requires : tie.Need-chunk-requires
 chunk-requires c κs =
     let a = c .before .before .before .before .before .before .before .before .before .before .before .before .args in
@@ -115,23 +93,18 @@ chunk-requires c κs =
     rw (chunk-body (a .order) (a .s .now) at code size k, chunk-size (a .order) (a .s .now) at code size k)
     (omega (arith, chunk-ends (a .order) (a .s .now) at code size k))
 
--- src/lib.rt:113:35
 enum-told : tie.Need-enum-told
 enum-told c = search needs
 
--- src/lib.rt:113:35
 sub-cut : tie.Need-sub-cut
 sub-cut c = search needs
 
--- src/lib.rt:113:31
 cut-requires : tie.Need-cut-requires
 cut-requires c κs = search needs
 
--- src/lib.rt:114:37
 skip-requires : tie.Need-skip-requires
 skip-requires c κs = search needs
 
--- src/lib.rt:93:5
 returns-4 : tie.Need-returns-4
 returns-4 c =
     let a = c .before .before .before .before .before .before .before .before .before .before .before .before .before .args in
@@ -142,14 +115,12 @@ returns-4 c =
     rw (ahead (c .before .before .before .before .before), c .before .before .before .code .given .1)
     (rw (chunk-body (a .order) (a .s .now) at code size k, chunk-size (a .order) (a .s .now) at code size k) at (c .chunk .ensures))
 
--- src/lib.rt:93:5
 returns-5 : tie.Need-returns-5
 returns-5 c =
     let h = c .before .before .before in
     let a = h .before .before .before .before .before .before .before .before .args in
     rw (ahead h, c .before .enum-told .given .1, length-drop (a .self .place) (a .s .now)) (c .cut .ensures)
 
--- src/lib.rt:93:5
 returns-6 : tie.Need-returns-6
 returns-6 c =
     let h = c .before .before in
