@@ -1,0 +1,56 @@
+-- Writing one record, its type and its body, at a place of a slice: the answer, and what the slice holds afterwards.
+use Prim.Native.Nat.{ℕ, _+_, _-_}
+use mathlib.Core.Bool.{Bool, true, false}
+use mathlib.Core.List.{List, _++_}
+use lib.Dec.{ltb}
+use lib.ListN.{length, take, drop}
+use Rattle.num.specs.Answer.{Answer, gives, refuses, then}
+use Rattle.num.specs.Choice.{pick}
+use Rattle.num.specs.declared.Order.{Order}
+use Rattle.frame.specs.Place.{goodSize}
+use Rattle.frame.specs.Frames.{chunkBytes}
+use Rattle.body.specs.Fault.{faultNumber}
+use Rattle.body.specs.Kind.{kindOf}
+use Rattle.body.specs.Verdict.{verdict}
+use Rattle.body.specs.declared.fault.Checked.{Checked}
+use Rattle.body.specs.declared.fault.Checked.the-variants as C
+use Rattle.writer.specs.declared.Written.{Written}
+use Rattle.writer.specs.declared.Written.the-variants.{Next, PastEnd, BadSize, Malformed, NoRoom}
+
+-- what a slice d holds after the bytes vs are laid over it from the place `at` on
+abbrev pub splice : List ℕ → ℕ → List ℕ → List ℕ
+splice d at vs = take at d ++ (vs ++ drop (at + length vs) d)
+
+-- a record may be written: 32 where its size is not good, then 11 to 15 where a known type does not meet its row
+abbrev pub mayWrite : Order → ℕ → List ℕ → Answer (Unit {0})
+mayWrite o code body = pick (goodSize (length body)) (verdict o (kindOf code) body) (refuses 32)
+
+-- In a slice of `whole` bytes: 2 where the place is past its end, then what the record is refused with, then 31 where the
+-- room left is under 12 + size; else the next place. A refusal leaves the place as it came.
+abbrev pub writeOf : Order → ℕ → List ℕ → ℕ → ℕ → Answer ℕ
+writeOf o code body whole place =
+    pick (ltb whole place) (refuses 2)
+    (then (mayWrite o code body)
+    (λ _. pick (ltb (whole - place) (12 + length body)) (refuses 31) (gives (place + 12 + length body))))
+
+-- the bytes are laid where the answer gives a next place, and on a refusal the slice is as it was
+abbrev pub laidBy : Answer ℕ → List ℕ → ℕ → List ℕ → List ℕ
+laidBy (gives next) d place vs = splice d place vs
+laidBy (refuses n) d place vs = d
+
+-- what the slice d holds afterwards
+abbrev pub writtenOut : Order → ℕ → List ℕ → List ℕ → ℕ → List ℕ
+writtenOut o code body d place = laidBy (writeOf o code body (length d) place) d place (chunkBytes o code body)
+
+-- what each case of the answer says
+abbrev pub writtenSaid : Written → Answer ℕ
+writtenSaid (Next place) = gives place
+writtenSaid PastEnd = refuses 2
+writtenSaid BadSize = refuses 32
+writtenSaid (Malformed fault) = refuses (faultNumber fault)
+writtenSaid NoRoom = refuses 31
+
+-- a verdict finds nothing wrong
+abbrev pub isGood : Checked → Bool
+isGood C.Good = true
+isGood (C.Malformed fault) = false

@@ -1,0 +1,110 @@
+// The writer: a record, its type and its body, laid as a chunk at a place of a lent slice.
+ghost use mathlib.Core.Path.{_≡_};
+ghost use Prim.Native.Nat.{_+_, _≤_, _<_};
+ghost use lib.ListN.{length};
+ghost use Rattle.num.specs.Number.{bytesOf};
+ghost use Rattle.frame.specs.Frames.{chunkBytes};
+ghost use Rattle.writer.specs.Write.{splice, writeOf, writtenOut, writtenSaid, isGood};
+use body::fault::Checked;
+use body::fault::Fault;
+use num::Order;
+
+// What writing a record answers: the place past its chunk, or why nothing was written.
+pub enum Written {
+    Next(usize),
+    // The place is past the end of the slice: number 2.
+    PastEnd,
+    // The body's size is not good: number 32.
+    BadSize,
+    // A body that its type does not allow: numbers 11 to 15.
+    Malformed(Fault),
+    // The room left is under 12 + size: number 31.
+    NoRoom,
+}
+
+// All of src over all of out, which is as long. A compiler makes one copy of it.
+fn fill(src: &[u8], out: &mut [u8])
+    requires { ⌜ length (now src) ≡ length (now out) ⌝ }
+    ensures { λ _. ⌜ now (out .exit) ≡ now (src .entry) ⌝ }
+{
+    let mut j = 0;
+    while j < src.len() {
+        out[j] = src[j];
+        j += 1;
+    }
+}
+
+// All of src into out, from the place `at` on.
+fn put(src: &[u8], out: &mut [u8], at: usize)
+    requires { ⌜ at + length (now src) ≤ length (now out) ⌝ }
+    ensures { λ _. ⌜ now (out .exit) ≡ splice (now (out .entry)) at (now (src .entry)) ⌝ }
+{
+    let end = at + src.len();
+    fill(src, &mut out[at..end])
+}
+
+// The four bytes of a number.
+fn put_word(order: Order, x: u32, out: &mut [u8], at: usize)
+    requires { ⌜ at + 4 ≤ length (now out) ⌝ }
+    ensures { λ _. ⌜ now (out .exit) ≡ splice (now (out .entry)) at (bytesOf order 4 x) ⌝ }
+{
+    let word = num::u32_bytes(order, x);
+    put(&word, out, at)
+}
+
+// A whole chunk: sync word, type, size and body.
+fn put_chunk(order: Order, code: u32, body: &[u8], out: &mut [u8], place: usize)
+    requires { ⌜ place + 12 + length (now body) ≤ length (now out) ⌝ }
+    requires { ⌜ length (now body) < 4294967296 ⌝ }
+    ensures { λ _. ⌜ now (out .exit) ≡ splice (now (out .entry)) place (chunkBytes order code (now (body .entry))) ⌝ }
+{
+    let size = body.len() as u32;
+    put_word(order, frame::SYNC, out, place);
+    put_word(order, code, out, place + 4);
+    put_word(order, size, out, place + 8);
+    put(body, out, place + frame::HEADER)
+}
+
+// Whether a verdict finds nothing wrong.
+fn is_good(checked: Checked) -> bool
+    ensures { λ r. ⌜ r ≡ isGood checked ⌝ }
+{
+    match checked {
+        Checked::Good => true,
+        Checked::Malformed(_) => false,
+    }
+}
+
+// The answer for a slice of `whole` bytes. The room counts only where the body is well-formed.
+fn answer(order: Order, code: u32, body: &[u8], whole: usize, place: usize) -> Written
+    ensures { λ r. ⌜ writtenSaid r ≡ writeOf order code (now (body .entry)) whole place ⌝ }
+{
+    if whole < place {
+        return Written::PastEnd;
+    }
+    let size = body.len();
+    if !frame::good_size(size) {
+        return Written::BadSize;
+    }
+    let checked = body::verdict::check(order, body::kind::kind_of(code), body);
+    let short = whole - place < frame::HEADER + size;
+    if is_good(checked) & short {
+        return Written::NoRoom;
+    }
+    match checked {
+        Checked::Malformed(f) => Written::Malformed(f),
+        Checked::Good => Written::Next(place + frame::HEADER + size),
+    }
+}
+
+// A record written at a place of out. On a refusal out is as it was.
+pub fn write(order: Order, code: u32, body: &[u8], out: &mut [u8], place: usize) -> Written
+    ensures said { λ r. ⌜ writtenSaid r ≡ writeOf order code (now (body .entry)) (length (now (out .entry))) place ⌝ }
+    ensures left { λ _. ⌜ now (out .exit) ≡ writtenOut order code (now (body .entry)) (now (out .entry)) place ⌝ }
+{
+    let answered = answer(order, code, body, out.len(), place);
+    if let Written::Next(_) = answered {
+        put_chunk(order, code, body, out, place);
+    }
+    answered
+}
