@@ -1,0 +1,195 @@
+-- Laws of copied samples: the numbers in order, values laid one by one, and when they fit.
+use Prim.Native.Nat.{ℕ, zero, suc, _+_, _-_, _*_, _/_, _≤_, _<_}
+use mathlib.Core.Path.{_≡_, refl, sym}
+use mathlib.Core.Bool.{Bool, true, false}
+use mathlib.Core.List.{List, [], _∷_, _++_, append-assoc}
+use native.Mathlib.Omega.{arith}
+use native.Mathlib.Numerals.{add-one}
+use native.Mathlib.Nat.{add-zero, add-mul, le-div-iff-mul-le, div-lt-iff-lt-mul, mul-le-mul-right}
+use borrow.Author.Tests.{le-leb, lt-leb, leb-true, leb-false, eqb-true, eqb-false}
+use lib.Dec.{eqb, leb}
+use lib.ListN.{length, getD, take, drop, set, length-append, length-drop}
+use lib.Seq.{drop-cons, set-at, append-snoc, take-at, drop-at}
+use Rattle.num.specs.Choice.{pick, both}
+use Rattle.num.proofs.Laws.{elems, part-elems}
+use Rattle.copy.specs.Samples.{bytesAt, placeOf, iOf, qOf, pairsOf, realsOf, laid, each, inside, pairsFit, realsFit}
+
+-- the bytes of a number, written out
+pub bytes-elems : (w : ℕ) (src : List ℕ) (k : ℕ) → (k + 1) * w ≤ length src → bytesAt w src k ≡ elems (k * w) 0 w src
+bytes-elems w src k h =
+    let e : (k + 1) * w ≡ k * w + 1 * w = add-mul k 1 w in
+    rw add-zero at (part-elems (k * w) 0 w src (omega arith))
+
+module _ {A : Type 0} where
+  -- one value more is laid
+  pub laid-next : (xs : List A) (x : A) (out : List A) (n : ℕ) → length xs ≡ n → n < length out → set (laid xs out) n x ≡ laid (xs ++ (x ∷ [])) out
+  laid-next xs x out n e h =
+      let l : length (xs ++ (x ∷ [])) ≡ suc n = omega (arith, length-append xs (x ∷ [])) in
+      rw (e, l, drop-cons out n x, set-at xs (getD out n x) (drop (suc n) out) x n e, append-snoc)
+
+  pub laid-length : (xs out : List A) → length xs ≤ length out → length (laid xs out) ≡ length out
+  laid-length xs out h = simp (length-append, length-drop) (omega arith)
+
+module _ {A : Type 0} (value : ℕ → A) (iq : Bool) (first step : ℕ) where
+  pub length-pairs : (n : ℕ) → length (pairsOf value iq first step n) ≡ 2 * n
+  unfolding pairsOf
+  length-pairs zero = refl
+  length-pairs (suc n) = rw (length-append, length-pairs n) (omega arith)
+
+  -- one pair more: its I, then its Q
+  pub pairs-next : (out : List A) (j : ℕ) → 2 * j + 1 < length out →
+      set (set (laid (pairsOf value iq first step j) out) (2 * j) (value (iOf iq (placeOf first step j)))) (2 * j + 1) (value (qOf iq (placeOf first step j)))
+      ≡ laid (pairsOf value iq first step (j + 1)) out
+  unfolding pairsOf
+  pairs-next out j h =
+      let xs = pairsOf value iq first step j in
+      let a = value (iOf iq (placeOf first step j)) in
+      let b = value (qOf iq (placeOf first step j)) in
+      let e = length-pairs j in
+      let l : length (xs ++ (a ∷ [])) ≡ 2 * j + 1 = omega (arith, length-append xs (a ∷ [])) in
+      rw (laid-next xs a out (2 * j) e (omega arith), laid-next (xs ++ (a ∷ [])) b out (2 * j + 1) l h, append-assoc xs (a ∷ []) (b ∷ []), add-one j)
+
+  pub pairs-length : (out : List A) (n : ℕ) → 2 * n ≤ length out → length (laid (pairsOf value iq first step n) out) ≡ length out
+  pairs-length out n h = laid-length (pairsOf value iq first step n) out (omega (arith, length-pairs n))
+
+  -- the first places of the slice hold the pairs, and the others what they held
+  pub pairs-front : (out : List A) (n : ℕ) → take (2 * n) (laid (pairsOf value iq first step n) out) ≡ pairsOf value iq first step n
+  pairs-front out n = take-at (pairsOf value iq first step n) _ (2 * n) (length-pairs n)
+
+  pub pairs-rest : (out : List A) (n : ℕ) → drop (2 * n) (laid (pairsOf value iq first step n) out) ≡ drop (2 * n) out
+  pairs-rest out n = rw (drop-at (pairsOf value iq first step n) _ (2 * n) (length-pairs n), length-pairs n)
+
+module _ {A : Type 0} (value : ℕ → A) where
+  pub length-reals : (n : ℕ) → length (realsOf value n) ≡ n
+  unfolding realsOf
+  length-reals zero = refl
+  length-reals (suc n) = rw (length-append, length-reals n) (omega arith)
+
+  -- one number more
+  pub reals-next : (out : List A) (j : ℕ) → j < length out → set (laid (realsOf value j) out) j (value j) ≡ laid (realsOf value (j + 1)) out
+  unfolding realsOf
+  reals-next out j h = rw (add-one j) (laid-next (realsOf value j) (value j) out j (length-reals j) h)
+
+  pub reals-length : (out : List A) (n : ℕ) → n ≤ length out → length (laid (realsOf value n) out) ≡ length out
+  reals-length out n h = laid-length (realsOf value n) out (omega (arith, length-reals n))
+
+  -- the first places of the slice hold the numbers, and the others what they held
+  pub reals-front : (out : List A) (n : ℕ) → take n (laid (realsOf value n) out) ≡ realsOf value n
+  reals-front out n = take-at (realsOf value n) _ n (length-reals n)
+
+  pub reals-rest : (out : List A) (n : ℕ) → drop n (laid (realsOf value n) out) ≡ drop n out
+  reals-rest out n = rw (drop-at (realsOf value n) _ n (length-reals n), length-reals n)
+
+both-false : (b : Bool) → both b false ≡ false
+both-false true = refl
+both-false false = refl
+
+-- where both tests hold, each does
+both-left : (a b : Bool) → both a b ≡ true → a ≡ true
+both-left true b h = refl
+both-left false b h = h
+
+both-right : (a b : Bool) → both a b ≡ true → b ≡ true
+both-right true b h = h
+both-right false b h = let z : _≡_ {A = ℕ} 0 1 = cc in absurd (omega arith)
+
+module _ (test : ℕ → Bool) where
+  each-all : (n : ℕ) → ((k : ℕ) → k < n → test k ≡ true) → each test n ≡ true
+  unfolding each
+  each-all zero h = refl
+  each-all (suc n) h = rw (each-all n (λ k l. h k (omega arith))) (h n (omega arith))
+
+  at-by : (n k : ℕ) (b : Bool) → eqb k n ≡ b → k < suc n → test n ≡ true → (k < n → test k ≡ true) → test k ≡ true
+  at-by n k true e l h r = let i : k ≡ n = eqb-true k n e in rw i h
+  at-by n k false e l h r = let i = eqb-false k n e in r (omega arith)
+
+  each-at : (n k : ℕ) → each test n ≡ true → k < n → test k ≡ true
+  unfolding each
+  each-at zero k h l = absurd (omega arith)
+  each-at (suc n) k h l =
+      at-by n k (eqb k n) refl l (both-right (each test n) (test n) h) (each-at n k (both-left (each test n) (test n) h))
+
+  stop-by : (n k : ℕ) (b : Bool) → each test n ≡ b → k < n → test k ≡ false → each test n ≡ false
+  stop-by n k true e l h =
+      let t = each-at n k e l in
+      let z : _≡_ {A = ℕ} 0 1 = cc in absurd (omega arith)
+  stop-by n k false e l h = e
+
+  -- one that fails decides
+  each-stop : (n k : ℕ) → k < n → test k ≡ false → each test n ≡ false
+  each-stop n k l h = stop-by n k (each test n) refl l h
+
+-- a pair lies inside where its place is below the number of places, by a division
+module _ (w size : ℕ) (pos : 0 < w) where
+  place-inside : (place : ℕ) → place < size / (2 * w) → inside w size place ≡ true
+  place-inside place h =
+      let k : 0 < 2 * w = omega arith in
+      le-leb _ _ (le-div-iff-mul-le k .0 (omega arith))
+
+  place-outside : (place : ℕ) → size / (2 * w) ≤ place → inside w size place ≡ false
+  place-outside place h =
+      let k : 0 < 2 * w = omega arith in
+      lt-leb _ _ (div-lt-iff-lt-mul k .0 (omega arith))
+
+-- when pairs fit, by the tests of the code in their order
+module _ (w size first step pairs room : ℕ) (pos : 0 < w) where
+  pub fit-no-room : room / 2 < pairs → pairsFit w size first step pairs room ≡ false
+  fit-no-room h = rw (lt-leb (2 * pairs) room (omega arith)) (both-false (each (λ j. inside w size (placeOf first step j)) pairs))
+
+  pub fit-none : pairs ≡ 0 → pairsFit w size first step pairs room ≡ true
+  unfolding each
+  fit-none e = rw (e, le-leb 0 room (omega arith))
+
+  fit-all : pairs ≤ room / 2 → ((j : ℕ) → j < pairs → placeOf first step j < size / (2 * w)) → pairsFit w size first step pairs room ≡ true
+  fit-all r h =
+      rw (each-all (λ j. inside w size (placeOf first step j)) pairs (λ j l. place-inside w size pos (placeOf first step j) (h j l)))
+      (le-leb (2 * pairs) room (omega arith))
+
+  fit-stop : (j : ℕ) → j < pairs → size / (2 * w) ≤ placeOf first step j → pairsFit w size first step pairs room ≡ false
+  fit-stop j l h =
+      rw (each-stop (λ j. inside w size (placeOf first step j)) pairs j l (place-outside w size pos (placeOf first step j) h))
+
+  pub fit-outside : 0 < pairs → size / (2 * w) ≤ first → pairsFit w size first step pairs room ≡ false
+  fit-outside l h = fit-stop 0 l (omega arith)
+
+  pub fit-same : pairs ≤ room / 2 → first < size / (2 * w) → step ≡ 0 → pairsFit w size first step pairs room ≡ true
+  fit-same r h e = fit-all r (λ j l. rw e (omega arith))
+
+  -- the last pair decides
+  last-by : (b : Bool) → leb (pairs - 1) ((size / (2 * w) - 1 - first) / step) ≡ b →
+      pairs ≤ room / 2 → 0 < pairs → first < size / (2 * w) → 0 < step → b ≡ pairsFit w size first step pairs room
+  last-by true e r p h s =
+      let m : (pairs - 1) * step ≤ size / (2 * w) - 1 - first = le-div-iff-mul-le s .0 (leb-true _ _ e) in
+      sym (fit-all r (λ j l. omega (arith, mul-le-mul-right {m = j} {n = pairs - 1} step (omega arith))))
+  last-by false e r p h s =
+      let m : size / (2 * w) - 1 - first < (pairs - 1) * step = div-lt-iff-lt-mul s .0 (leb-false _ _ e) in
+      sym (fit-stop (pairs - 1) (omega arith) (omega arith))
+
+  pub fit-last : pairs ≤ room / 2 → 0 < pairs → first < size / (2 * w) → 0 < step →
+      leb (pairs - 1) ((size / (2 * w) - 1 - first) / step) ≡ pairsFit w size first step pairs room
+  fit-last r p h s = last-by (leb (pairs - 1) ((size / (2 * w) - 1 - first) / step)) refl r p h s
+
+-- what fitting says of each pair, and of the slice
+module _ (w size first step pairs room : ℕ) (fits : pairsFit w size first step pairs room ≡ true) where
+  pub pair-inside : (j : ℕ) → j < pairs → (placeOf first step j + 1) * (2 * w) ≤ size
+  pair-inside j l =
+      let test : ℕ → Bool = λ j. inside w size (placeOf first step j) in
+      leb-true _ _ (each-at test pairs j (both-left (each test pairs) (leb (2 * pairs) room) fits) l)
+
+  pub pairs-room : 2 * pairs ≤ room
+  pairs-room = leb-true _ _ (both-right (each (λ j. inside w size (placeOf first step j)) pairs) (leb (2 * pairs) room) fits)
+
+-- when numbers fit
+pub reals-outside : (w size count room : ℕ) → size < count * w → realsFit w size count room ≡ false
+reals-outside w size count room h = rw (lt-leb (count * w) size h)
+
+pub reals-no-room : (w size count room : ℕ) → room < count → realsFit w size count room ≡ false
+reals-no-room w size count room h = rw (lt-leb count room h) (both-false (leb (count * w) size))
+
+pub reals-fit : (w size count room : ℕ) → count * w ≤ size → count ≤ room → realsFit w size count room ≡ true
+reals-fit w size count room h g = rw (le-leb (count * w) size h, le-leb count room g)
+
+-- one of two values is the value of one of two places
+pub pick-value : {A : Type 0} (value : ℕ → A) (left : Bool) (a b : ℕ) → pick left (value a) (value b) ≡ value (pick left a b)
+pick-value value true a b = refl
+pick-value value false a b = refl

@@ -1,0 +1,82 @@
+-- After j turns the first j pairs are laid; they stand one after the other, which is step 1.
+use Prim.Native.Nat.{_+_, _-_, _*_, _≤_}
+use mathlib.Core.Path.{_≡_, refl, ap, _∙_}
+use native.Mathlib.Omega.{arith}
+use lib.ListN.{length}
+use Rattle.copy.specs.Samples.{shortAt, pairsOf, laid, placeOf}
+use Rattle.copy.proofs.Laws.{pairs-next, pairs-length, pair-inside, pairs-room}
+use borrow.Author.Needs.{needs}
+use Rattle.copy.proofs.short_run.Statement.{statement}
+use Rattle.copy.proofs.short_run.Tie as tie
+
+abbrev Inv-loop : tie.InvT-loop
+Inv-loop order iq src first pairs out₀ j₀ out j = (j ≤ pairs) × (out ≡ laid (pairsOf (shortAt order src) iq first 1 j) out₀)
+
+abbrev μ-loop : tie.MeasureT-loop
+μ-loop order iq src first pairs out₀ j₀ out j = pairs - j
+
+-- the pair of this turn lies inside
+turn : (c : tie.In-loop Inv-loop μ-loop) →
+    let a = c .before .before .before .args in
+    (placeOf (a .first) 1 (c .before .loop .j) + 1) * (2 * 2) ≤ length (a .src .now)
+turn c =
+    let s = c .before .before .before in
+    let a = s .args in
+    pair-inside 2 (length (a .src .now)) (a .first) 1 (a .pairs) (length (a .out .now)) (s .pre) (c .before .loop .j) (c .loop-test .taken)
+
+-- the slice is as long as it was, and has room
+long : (c : tie.At-loop Inv-loop μ-loop) →
+    let a = c .before .before .args in
+    (length (c .loop .out) ≡ length (a .out .now)) × (2 * a .pairs ≤ length (a .out .now))
+long c =
+    let s = c .before .before in
+    let a = s .args in
+    let room = pairs-room 2 (length (a .src .now)) (a .first) 1 (a .pairs) (length (a .out .now)) (s .pre) in
+    (ap length (c .loop .inv .1) ∙ pairs-length _ (a .iq) (a .first) 1 (a .out .now) (c .loop .j) (omega arith), room)
+
+loop-holds : tie.Need-loop-holds Inv-loop μ-loop
+unfolding pairsOf
+loop-holds c = (omega arith, refl)
+
+add-short-pair : tie.Need-add-short-pair Inv-loop μ-loop
+add-short-pair c = omega (arith, turn c)
+
+short-pair-requires : tie.Need-short-pair-requires Inv-loop μ-loop
+short-pair-requires c κs = (omega (arith, turn (c .before)), omega (arith, long (c .before .before)))
+
+add-j : tie.Need-add-j Inv-loop μ-loop
+add-j c = search needs
+
+loop-less : tie.Need-loop-less Inv-loop μ-loop
+loop-less c = search needs
+
+loop-again : tie.Need-loop-again Inv-loop μ-loop
+loop-again c =
+    let l = c .before .before .before .before in
+    let a = l .before .before .args in
+    let one : a .first + l .loop .j * 1 ≡ a .first + l .loop .j = omega arith in
+    let next = rw one at (pairs-next (shortAt (a .order) (a .src .now)) (a .iq) (a .first) 1 (a .out .now) (l .loop .j) (omega (arith, long l))) in
+    (omega arith, rw (c .before .short-pair .ensures, l .loop .inv .1) next)
+
+same-length : tie.Need-same-length Inv-loop μ-loop
+same-length c = long (c .before) .0
+
+returns : tie.Need-returns Inv-loop μ-loop
+returns c =
+    let e : c .before .loop .j ≡ c .before .before .before .args .pairs = omega arith in
+    rw (← e) (c .before .loop .inv .1)
+
+pub short-run-spec : {M : Type 1} → statement M
+short-run-spec =
+    tie.close
+    (tie.spec
+    Inv-loop
+    μ-loop
+    loop-holds
+    add-short-pair
+    short-pair-requires
+    add-j
+    loop-less
+    loop-again
+    same-length
+    returns)

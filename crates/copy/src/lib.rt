@@ -1,0 +1,237 @@
+// The samples of one channel, copied out of the sample bytes of a data chunk into a lent slice.
+ghost use mathlib.Core.Path.{_≡_};
+ghost use mathlib.Core.Bool.{true};
+ghost use Prim.Native.Nat.{_+_, _*_, _≤_, _<_};
+ghost use lib.ListN.{length, set};
+ghost use Rattle.num.specs.Choice.{pick};
+ghost use Rattle.copy.specs.Samples.{shortAt, patternAt, iOf, qOf, pairsOf, realsOf, laid, pairsFit, realsFit};
+use num::Order;
+
+// Number k of the sample bytes.
+fn short_at(order: Order, src: &[u8], k: usize) -> i16
+    requires { ⌜ (k + 1) * 2 ≤ length (now src) ⌝ }
+    ensures { λ r. ⌜ r ≡ shortAt order (now (src .entry)) k ⌝ }
+{
+    let p = k * 2;
+    num::i16_of(order, [src[p], src[p + 1]])
+}
+
+fn pattern_at(order: Order, src: &[u8], k: usize) -> u32
+    requires { ⌜ (k + 1) * 4 ≤ length (now src) ⌝ }
+    ensures { λ r. ⌜ r ≡ patternAt order (now (src .entry)) k ⌝ }
+{
+    let p = k * 4;
+    num::u32_of(order, [src[p], src[p + 1], src[p + 2], src[p + 3]])
+}
+
+// One of two numbers.
+fn short_of(left: bool, a: i16, b: i16) -> i16
+    ensures { λ r. ⌜ r ≡ pick left a b ⌝ }
+{
+    if left { a } else { b }
+}
+
+fn pattern_of(left: bool, a: u32, b: u32) -> u32
+    ensures { λ r. ⌜ r ≡ pick left a b ⌝ }
+{
+    if left { a } else { b }
+}
+
+// The pair at a place of the sample bytes, laid as pair j of out.
+fn short_pair(order: Order, iq: bool, src: &[u8], place: usize, j: usize, out: &mut [i16])
+    requires { ⌜ ((place + 1) * 4 ≤ length (now src)) × (2 * j + 1 < length (now out)) ⌝ }
+    ensures { λ _. ⌜ now (out .exit) ≡ set (set (now (out .entry)) (2 * j) (shortAt order (now (src .entry)) (iOf iq place))) (2 * j + 1) (shortAt order (now (src .entry)) (qOf iq place)) ⌝ }
+{
+    let a = short_at(order, src, 2 * place);
+    let b = short_at(order, src, 2 * place + 1);
+    let k = 2 * j;
+    out[k] = short_of(iq, a, b);
+    out[k + 1] = short_of(iq, b, a);
+}
+
+fn pattern_pair(order: Order, iq: bool, src: &[u8], place: usize, j: usize, out: &mut [u32])
+    requires { ⌜ ((place + 1) * 8 ≤ length (now src)) × (2 * j + 1 < length (now out)) ⌝ }
+    ensures { λ _. ⌜ now (out .exit) ≡ set (set (now (out .entry)) (2 * j) (patternAt order (now (src .entry)) (iOf iq place))) (2 * j + 1) (patternAt order (now (src .entry)) (qOf iq place)) ⌝ }
+{
+    let a = pattern_at(order, src, 2 * place);
+    let b = pattern_at(order, src, 2 * place + 1);
+    let k = 2 * j;
+    out[k] = pattern_of(iq, a, b);
+    out[k + 1] = pattern_of(iq, b, a);
+}
+
+// Pairs that stand one after the other. Without a step a compiler makes vectors of the loop.
+fn short_run(order: Order, iq: bool, src: &[u8], first: usize, pairs: usize, out: &mut [i16])
+    requires { ⌜ pairsFit 2 (length (now src)) first 1 pairs (length (now out)) ≡ true ⌝ }
+    ensures { λ _. ⌜ now (out .exit) ≡ laid (pairsOf (shortAt order (now (src .entry))) iq first 1 pairs) (now (out .entry)) ⌝ }
+{
+    let mut j = 0;
+    while j < pairs {
+        short_pair(order, iq, src, first + j, j, out);
+        j += 1;
+    }
+}
+
+fn pattern_run(order: Order, iq: bool, src: &[u8], first: usize, pairs: usize, out: &mut [u32])
+    requires { ⌜ pairsFit 4 (length (now src)) first 1 pairs (length (now out)) ≡ true ⌝ }
+    ensures { λ _. ⌜ now (out .exit) ≡ laid (pairsOf (patternAt order (now (src .entry))) iq first 1 pairs) (now (out .entry)) ⌝ }
+{
+    let mut j = 0;
+    while j < pairs {
+        pattern_pair(order, iq, src, first + j, j, out);
+        j += 1;
+    }
+}
+
+// Pairs at any step.
+fn short_steps(
+    order: Order,
+    iq: bool,
+    src: &[u8],
+    first: usize,
+    step: usize,
+    pairs: usize,
+    out: &mut [i16],
+)
+    requires { ⌜ pairsFit 2 (length (now src)) first step pairs (length (now out)) ≡ true ⌝ }
+    ensures { λ _. ⌜ now (out .exit) ≡ laid (pairsOf (shortAt order (now (src .entry))) iq first step pairs) (now (out .entry)) ⌝ }
+{
+    let mut j = 0;
+    while j < pairs {
+        short_pair(order, iq, src, first + j * step, j, out);
+        j += 1;
+    }
+}
+
+fn pattern_steps(
+    order: Order,
+    iq: bool,
+    src: &[u8],
+    first: usize,
+    step: usize,
+    pairs: usize,
+    out: &mut [u32],
+)
+    requires { ⌜ pairsFit 4 (length (now src)) first step pairs (length (now out)) ≡ true ⌝ }
+    ensures { λ _. ⌜ now (out .exit) ≡ laid (pairsOf (patternAt order (now (src .entry))) iq first step pairs) (now (out .entry)) ⌝ }
+{
+    let mut j = 0;
+    while j < pairs {
+        pattern_pair(order, iq, src, first + j * step, j, out);
+        j += 1;
+    }
+}
+
+// Whether the pairs lie inside size bytes, two numbers of so many bytes each, and out has room for them. Nothing is
+// multiplied by the step, so that no test overflows: the last pair is found by a division.
+fn pairs_fit(
+    width: usize,
+    size: usize,
+    first: usize,
+    step: usize,
+    pairs: usize,
+    room: usize,
+) -> bool
+    requires { ⌜ (0 < width) × (width ≤ 4) ⌝ }
+    ensures { λ r. ⌜ r ≡ pairsFit width size first step pairs room ⌝ }
+{
+    if room / 2 < pairs {
+        return false;
+    }
+    if pairs == 0 {
+        return true;
+    }
+    let places = size / (2 * width);
+    if places <= first {
+        return false;
+    }
+    if step == 0 {
+        return true;
+    }
+    pairs - 1 <= (places - 1 - first) / step
+}
+
+// The pairs of a channel: the first at the place first, each next one step places on. True where they fit and are copied,
+// I before Q whatever the packing; false where they do not, and then out is as it was.
+pub fn short_pairs(
+    order: Order,
+    iq: bool,
+    src: &[u8],
+    first: usize,
+    step: usize,
+    pairs: usize,
+    out: &mut [i16],
+) -> bool
+    ensures { λ r. ⌜ r ≡ pairsFit 2 (length (now (src .entry))) first step pairs (length (now (out .entry))) ⌝ }
+    ensures { λ r. ⌜ now (out .exit) ≡ pick r (laid (pairsOf (shortAt order (now (src .entry))) iq first step pairs) (now (out .entry))) (now (out .entry)) ⌝ }
+{
+    if !pairs_fit(2, src.len(), first, step, pairs, out.len()) {
+        return false;
+    }
+    if step == 1 {
+        short_run(order, iq, src, first, pairs, out);
+        return true;
+    }
+    short_steps(order, iq, src, first, step, pairs, out);
+    true
+}
+
+pub fn pattern_pairs(
+    order: Order,
+    iq: bool,
+    src: &[u8],
+    first: usize,
+    step: usize,
+    pairs: usize,
+    out: &mut [u32],
+) -> bool
+    ensures { λ r. ⌜ r ≡ pairsFit 4 (length (now (src .entry))) first step pairs (length (now (out .entry))) ⌝ }
+    ensures { λ r. ⌜ now (out .exit) ≡ pick r (laid (pairsOf (patternAt order (now (src .entry))) iq first step pairs) (now (out .entry))) (now (out .entry)) ⌝ }
+{
+    if !pairs_fit(4, src.len(), first, step, pairs, out.len()) {
+        return false;
+    }
+    if step == 1 {
+        pattern_run(order, iq, src, first, pairs, out);
+        return true;
+    }
+    pattern_steps(order, iq, src, first, step, pairs, out);
+    true
+}
+
+// The first numbers, one for each sample.
+pub fn short_reals(order: Order, src: &[u8], count: usize, out: &mut [i16]) -> bool
+    ensures { λ r. ⌜ r ≡ realsFit 2 (length (now (src .entry))) count (length (now (out .entry))) ⌝ }
+    ensures { λ r. ⌜ now (out .exit) ≡ pick r (laid (realsOf (shortAt order (now (src .entry))) count) (now (out .entry))) (now (out .entry)) ⌝ }
+{
+    if src.len() / 2 < count {
+        return false;
+    }
+    if out.len() < count {
+        return false;
+    }
+    let mut j = 0;
+    while j < count {
+        out[j] = short_at(order, src, j);
+        j += 1;
+    }
+    true
+}
+
+pub fn pattern_reals(order: Order, src: &[u8], count: usize, out: &mut [u32]) -> bool
+    ensures { λ r. ⌜ r ≡ realsFit 4 (length (now (src .entry))) count (length (now (out .entry))) ⌝ }
+    ensures { λ r. ⌜ now (out .exit) ≡ pick r (laid (realsOf (patternAt order (now (src .entry))) count) (now (out .entry))) (now (out .entry)) ⌝ }
+{
+    if src.len() / 4 < count {
+        return false;
+    }
+    if out.len() < count {
+        return false;
+    }
+    let mut j = 0;
+    while j < count {
+        out[j] = pattern_at(order, src, j);
+        j += 1;
+    }
+    true
+}
