@@ -1,0 +1,56 @@
+-- The chunk that a step gives stands at the cursor.
+use Prim.Native.Nat.{ℕ}
+use mathlib.Core.Path.{_≡_, refl, _∙_}
+use mathlib.Core.Bool.{Bool, true, false, not}
+use mathlib.Core.List.{List, [], _∷_}
+use native.Mathlib.Omega.{arith}
+use lib.Dec.{ltb}
+use lib.ListN.{length, take, drop}
+use Rattle.num.specs.Answer.{gives}
+use Rattle.num.specs.Choice.{pick, both}
+use Rattle.num.specs.declared.Order.{Order}
+use Rattle.frame.specs.Place.{shows}
+use Rattle.frame.specs.declared.At.{At}
+use Rattle.frame.specs.declared.At.the-variants.{NoSync, Bad, Unfinished, Complete}
+use Rattle.body.specs.Kind.{kindOf}
+use Rattle.effect.specs.Says.{Says}
+use Rattle.effect.specs.Effect.{Effect, effect}
+use Rattle.state.specs.Good.{goodState}
+use Rattle.reader.specs.Item.{chunk}
+use Rattle.reader.specs.Step.{Step, before, refused, accepts, stepBy, stepAhead, stepOf}
+use Rattle.reader.specs.declared.Cursor.{Cursor}
+
+-- the effect of the chunk that l, ahead of the cursor, begins with
+abbrev pub effectOf : Order → List ℕ → Cursor → ℕ → ℕ → Effect
+effectOf o l c code size = effect o (kindOf code) (take size (drop 12 l)) (before (c .«in_step») (c .state))
+
+pub record Stands (o : Order) (l : List ℕ) (c : Cursor) (t : Step) (code size : ℕ) (says : Says) : Type 0 where
+  pub here : shows o l ≡ Complete code size
+  pub step : t ≡ accepts c code size (effectOf o l c code size)
+  pub said : effectOf o l c code size .says ≡ says
+
+module _ (o : Order) (c : Cursor) (p code size : ℕ) (says : Says) where
+  stands-by : (l : List ℕ) (a : At) → shows o l ≡ a → stepBy o l c a .item ≡ gives (chunk p code size says) → Stands o l c (stepBy o l c a) code size says
+  stands-by l (Complete k n) h e =
+      let i : k ≡ code = cc in
+      let j : n ≡ size = cc in
+      let q : effectOf o l c k n .says ≡ says = cc in
+      record { here = h ∙ rw (i, j); step = rw (i, j); said = rw (← i, ← j) q }
+  stands-by l Unfinished h e = let z : _≡_ {A = ℕ} 0 1 = cc in absurd (omega arith)
+  stands-by l NoSync h e = let z : _≡_ {A = ℕ} 0 1 = cc in absurd (omega arith)
+  stands-by l Bad h e = let z : _≡_ {A = ℕ} 0 1 = cc in absurd (omega arith)
+
+  ahead-by : (l : List ℕ) → stepAhead o l c .item ≡ gives (chunk p code size says) → Stands o l c (stepAhead o l c) code size says
+  ahead-by [] e = let z : _≡_ {A = ℕ} 0 1 = cc in absurd (omega arith)
+  ahead-by (x ∷ l) e = stands-by (x ∷ l) (shows o (x ∷ l)) refl e
+
+  tests-by : (l : List ℕ) (a b : Bool) →
+      let t : Step = pick a (refused 2 c) (pick b (refused 3 c) (stepAhead o l c)) in
+      t .item ≡ gives (chunk p code size says) → Stands o l c t code size says
+  tests-by l true b e = let z : _≡_ {A = ℕ} 0 1 = cc in absurd (omega arith)
+  tests-by l false true e = let z : _≡_ {A = ℕ} 0 1 = cc in absurd (omega arith)
+  tests-by l false false e = ahead-by l e
+
+  pub stands : (s : List ℕ) → stepOf o s c .item ≡ gives (chunk p code size says) → Stands o (drop (c .place) s) c (stepOf o s c) code size says
+  unfolding stepOf
+  stands s e = tests-by (drop (c .place) s) (ltb (length s) (c .place)) (both (c .«in_step») (not (goodState (c .state)))) e

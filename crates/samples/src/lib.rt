@@ -1,0 +1,261 @@
+// Samples: the numbers of one channel, copied out of the ready data chunk at a cursor. Here stands where they lie.
+pub mod patterns;
+pub mod shorts;
+
+ghost use mathlib.Core.Path.{_≡_};
+ghost use lib.ListN.{getD};
+ghost use Rattle.samples.specs.Layout.{shapeOf, hasWidth, alone, paired, real, oneOf, arranged, layout, laidSaid};
+ghost use Rattle.effect.specs.Says.{verdictSaid};
+ghost use Rattle.samples.specs.Plan.{plannedSaid, sizedBy, Sound};
+ghost use Rattle.samples.specs.Copy.{layoutIn, layoutAt};
+use body::data::Data;
+use body::kind::Kind;
+use effect::Verdict;
+use num::Order;
+use reader::Cursor;
+use reader::Item;
+use state::State;
+
+// Where a channel's numbers lie among those of a chunk: pairs, the first of them, the step from one to the next and how many;
+// or the reals from the first on.
+pub struct Layout {
+    pub pairs: bool,
+    pub iq: bool,
+    pub first: usize,
+    pub step: usize,
+    pub count: usize,
+}
+
+// What the samples of a kind are.
+pub enum Shape {
+    ShortPairs,
+    ShortReals,
+    ShortGroup,
+    FloatPairs,
+    FloatReals,
+    FloatGroup,
+    NoData,
+}
+
+pub enum Laid {
+    At(Layout),
+    NoChannel,
+    NotReady,
+}
+
+// Where the channel lies in the chunk at a cursor, with the chunk's size; or a refusal.
+pub enum Planned {
+    Go(Layout, usize),
+    PastEnd,
+    BadState,
+    NotReady,
+    NoChannel,
+}
+
+// The count of numbers written, or why there are none.
+pub enum Copied {
+    Count(usize),
+    // Number 2.
+    PastEnd,
+    // Number 3.
+    BadState,
+    // No ready data chunk of the call's width stands at the cursor: number 35.
+    NotReady,
+    // Number 34.
+    NoChannel,
+    // Number 33.
+    TooShort,
+}
+
+fn shape_of(kind: Kind) -> Shape
+    ensures { λ r. ⌜ r ≡ shapeOf kind ⌝ }
+{
+    match kind {
+        Kind::SSNC => Shape::ShortPairs,
+        Kind::SSNR => Shape::ShortReals,
+        Kind::GSNC => Shape::ShortGroup,
+        Kind::SFNC => Shape::FloatPairs,
+        Kind::SFNR => Shape::FloatReals,
+        Kind::GFNC => Shape::FloatGroup,
+        Kind::SIQP => Shape::NoData,
+        Kind::SR => Shape::NoData,
+        Kind::BW => Shape::NoData,
+        Kind::GCBW => Shape::NoData,
+        Kind::BWOF => Shape::NoData,
+        Kind::CF => Shape::NoData,
+        Kind::DBFS => Shape::NoData,
+        Kind::DBTG => Shape::NoData,
+        Kind::FFS => Shape::NoData,
+        Kind::GIQP => Shape::NoData,
+        Kind::GCF => Shape::NoData,
+        Kind::GRG => Shape::NoData,
+        Kind::SOFH => Shape::NoData,
+        Kind::EOFH => Shape::NoData,
+        Kind::IQDC => Shape::NoData,
+        Kind::TEXT => Shape::NoData,
+        Kind::Unknown => Shape::NoData,
+    }
+}
+
+fn has_width(float: bool, shape: Shape) -> bool
+    ensures { λ r. ⌜ r ≡ hasWidth float shape ⌝ }
+{
+    match shape {
+        Shape::ShortPairs => !float,
+        Shape::ShortReals => !float,
+        Shape::ShortGroup => !float,
+        Shape::FloatPairs => float,
+        Shape::FloatReals => float,
+        Shape::FloatGroup => float,
+        Shape::NoData => false,
+    }
+}
+
+fn alone(channel: usize, layout: Layout) -> Laid
+    ensures { λ r. ⌜ laidSaid r ≡ alone channel layout ⌝ }
+{
+    if channel == 0 {
+        Laid::At(layout)
+    } else {
+        Laid::NoChannel
+    }
+}
+
+fn paired(shown: State, d: Data) -> Layout
+    ensures { λ r. ⌜ r ≡ paired shown d ⌝ }
+{
+    let packing = shown.packing;
+    Layout {
+        pairs: true,
+        iq: packing.value == 1,
+        first: 0,
+        step: 1,
+        count: d.samples,
+    }
+}
+
+fn real(d: Data) -> Layout
+    ensures { λ r. ⌜ r ≡ real d ⌝ }
+{
+    Layout {
+        pairs: false,
+        iq: false,
+        first: 0,
+        step: 1,
+        count: d.samples,
+    }
+}
+
+// 0 past the sixteen places.
+fn offset_at(offsets: [u32; 16], channel: usize) -> usize
+    ensures { λ r. ⌜ r ≡ getD offsets channel 0 ⌝ }
+{
+    if channel < 16 {
+        offsets[channel] as usize
+    } else {
+        0
+    }
+}
+
+fn one_of(channel: usize, shown: State, d: Data) -> Laid
+    ensures { λ r. ⌜ laidSaid r ≡ oneOf channel shown d ⌝ }
+{
+    let group = shown.group;
+    let n = group.n;
+    if channel >= n {
+        return Laid::NoChannel;
+    }
+    let offsets = group.offsets;
+    Laid::At(Layout {
+        pairs: true,
+        iq: group.iq,
+        first: offset_at(offsets, channel),
+        step: group.increment as usize,
+        count: d.samples / n,
+    })
+}
+
+fn arranged(shape: Shape, channel: usize, shown: State, d: Data) -> Laid
+    ensures { λ r. ⌜ laidSaid r ≡ arranged shape channel shown d ⌝ }
+{
+    match shape {
+        Shape::ShortPairs => alone(channel, paired(shown, d)),
+        Shape::ShortReals => alone(channel, real(d)),
+        Shape::ShortGroup => one_of(channel, shown, d),
+        Shape::FloatPairs => alone(channel, paired(shown, d)),
+        Shape::FloatReals => alone(channel, real(d)),
+        Shape::FloatGroup => one_of(channel, shown, d),
+        Shape::NoData => Laid::NotReady,
+    }
+}
+
+// Where a channel of a ready chunk lies, if the chunk is of the width.
+fn laid_out(float: bool, shape: Shape, channel: usize, shown: State, d: Data) -> Laid
+    ensures { λ r. ⌜ laidSaid r ≡ layout float shape channel shown d ⌝ }
+{
+    if has_width(float, shape) {
+        arranged(shape, channel, shown, d)
+    } else {
+        Laid::NotReady
+    }
+}
+
+// The same of a chunk, by what is said of it.
+fn layout_in(float: bool, channel: usize, shown: State, verdict: Verdict, code: u32) -> Laid
+    ensures { λ r. ⌜ laidSaid r ≡ layoutIn float channel shown (verdictSaid verdict) code ⌝ }
+{
+    match verdict {
+        Verdict::Ready(d) => {
+            laid_out(
+                float,
+                shape_of(body::kind::kind_of(code)),
+                channel,
+                shown,
+                d,
+            )
+        }
+        Verdict::Good => Laid::NotReady,
+        Verdict::Unknown => Laid::NotReady,
+        Verdict::Malformed(_) => Laid::NotReady,
+        Verdict::NotCovered => Laid::NotReady,
+        Verdict::Waits(_, _) => Laid::NotReady,
+    }
+}
+
+// Where the channel lies in the chunk at the cursor.
+fn plan(order: Order, s: &[u8], cursor: Cursor, channel: usize, float: bool) -> Planned
+    ensures { λ r. ⌜ (plannedSaid r ≡ layoutAt float order (now (s .entry)) cursor channel) × Sound float order (now (s .entry)) cursor r ⌝ }
+{
+    let stepped = cursor.step(order, s);
+    let item = stepped.item;
+    let shown = stepped.shown;
+    match item {
+        Item::Chunk {
+            place: _,
+            code,
+            size,
+            verdict,
+        } => sized(layout_in(float, channel, shown, verdict, code), size),
+        Item::PastEnd => Planned::PastEnd,
+        Item::BadState => Planned::BadState,
+        Item::End => Planned::NotReady,
+        Item::Skipped {
+            place: _,
+            length: _,
+        } => Planned::NotReady,
+        Item::Unfinished {
+            place: _,
+            length: _,
+        } => Planned::NotReady,
+    }
+}
+
+fn sized(laid: Laid, size: usize) -> Planned
+    ensures { λ r. ⌜ r ≡ sizedBy laid size ⌝ }
+{
+    match laid {
+        Laid::At(layout) => Planned::Go(layout, size),
+        Laid::NoChannel => Planned::NoChannel,
+        Laid::NotReady => Planned::NotReady,
+    }
+}
