@@ -1,0 +1,116 @@
+-- What the definitions say: the example of a listing, and decimal digits that read back.
+use Prim.Native.Nat.{ℕ, zero, suc, _+_, _-_, _*_, _/_, _%_, _<_}
+use mathlib.Core.Path.{_≡_, refl, ap}
+use mathlib.Core.Bool.{Bool, true, false}
+use mathlib.Core.List.{List, [], _∷_, _++_, map}
+use native.Mathlib.Omega.{arith}
+use lib.Dec.{ltb}
+use lib.IntN.{negsuc}
+use lib.ListN.{length, getD, length-append, List·getD-append}
+use borrow.Author.Tests.{ltb-true, ltb-false}
+use Rattle.num.specs.declared.Order.the-variants.{Big}
+use Rattle.body.specs.Kind.{known, kindIn, kindOf}
+use Rattle.reader.specs.Items.{Given, items}
+use Rattle.reader.proofs.Listed.{example, listed}
+use Rattle.listing.specs.Digits.{digit, decimalBy, decimal, hexDigits}
+use Rattle.listing.specs.Words.{integerWord, hexWord, dumpLine}
+use Rattle.listing.specs.Lines.{countLine, stretchLine, chunkLine, listing}
+use Rattle.listing.specs.declared.Label.the-variants.{Time, GroupGains}
+use Rattle.listing.proofs.Numbers.{decimal-one, decimal-more}
+
+-- ---- the example
+
+-- the text of the example
+abbrev pub exampleText : List ℕ
+exampleText =
+    -- pxgf big 73
+    0x70 ∷ 0x78 ∷ 0x67 ∷ 0x66 ∷ 0x20 ∷ 0x62 ∷ 0x69 ∷ 0x67 ∷ 0x20 ∷ 0x37 ∷ 0x33 ∷ 0x0A ∷
+    -- skip 0 3
+    0x73 ∷ 0x6B ∷ 0x69 ∷ 0x70 ∷ 0x20 ∷ 0x30 ∷ 0x20 ∷ 0x33 ∷ 0x0A ∷
+    -- chunk 3 CF__ 8 ok
+    0x63 ∷ 0x68 ∷ 0x75 ∷ 0x6E ∷ 0x6B ∷ 0x20 ∷ 0x33 ∷ 0x20 ∷ 0x43 ∷ 0x46 ∷ 0x5F ∷ 0x5F ∷ 0x20 ∷ 0x38 ∷ 0x20 ∷ 0x6F ∷ 0x6B ∷ 0x0A ∷
+    -- chunk 23 IQDC 0 ok
+    0x63 ∷ 0x68 ∷ 0x75 ∷ 0x6E ∷ 0x6B ∷ 0x20 ∷ 0x32 ∷ 0x33 ∷ 0x20 ∷ 0x49 ∷ 0x51 ∷ 0x44 ∷ 0x43 ∷ 0x20 ∷ 0x30 ∷ 0x20 ∷ 0x6F ∷ 0x6B ∷ 0x0A ∷
+    -- chunk 35 41424344 0 unknown
+    0x63 ∷ 0x68 ∷ 0x75 ∷ 0x6E ∷ 0x6B ∷ 0x20 ∷ 0x33 ∷ 0x35 ∷ 0x20 ∷ 0x34 ∷ 0x31 ∷ 0x34 ∷ 0x32 ∷ 0x34 ∷ 0x33 ∷ 0x34 ∷ 0x34 ∷ 0x20 ∷ 0x30 ∷ 0x20 ∷ 0x75 ∷ 0x6E ∷ 0x6B ∷ 0x6E ∷ 0x6F ∷ 0x77 ∷ 0x6E ∷ 0x0A ∷
+    -- chunk 47 SSNC 12 wait 21
+    0x63 ∷ 0x68 ∷ 0x75 ∷ 0x6E ∷ 0x6B ∷ 0x20 ∷ 0x34 ∷ 0x37 ∷ 0x20 ∷ 0x53 ∷ 0x53 ∷ 0x4E ∷ 0x43 ∷ 0x20 ∷ 0x31 ∷ 0x32 ∷ 0x20 ∷ 0x77 ∷ 0x61 ∷ 0x69 ∷ 0x74 ∷ 0x20 ∷ 0x32 ∷ 0x31 ∷ 0x0A ∷
+    -- skip 71 2
+    0x73 ∷ 0x6B ∷ 0x69 ∷ 0x70 ∷ 0x20 ∷ 0x37 ∷ 0x31 ∷ 0x20 ∷ 0x32 ∷ 0x0A ∷
+    -- end 6
+    0x65 ∷ 0x6E ∷ 0x64 ∷ 0x20 ∷ 0x36 ∷ 0x0A ∷
+    []
+
+-- the listing of the example's 73 bytes
+pub example-listing : listing Big 73 (map (λ (g : Given). g .item) (items Big example)) ≡ exampleText
+unfolding countLine stretchLine chunkLine decimal decimalBy hexDigits kindOf kindIn known
+example-listing = ap (listing Big 73) listed
+
+-- two lines of a dump: the time -5, and two gains as patterns
+pub example-dump : dumpLine Time (integerWord (negsuc 4)) ++ dumpLine GroupGains (hexWord 0x3F800000 ++ hexWord 0xC0A00000) ≡
+    --   time -5
+    0x20 ∷ 0x20 ∷ 0x74 ∷ 0x69 ∷ 0x6D ∷ 0x65 ∷ 0x20 ∷ 0x2D ∷ 0x35 ∷ 0x0A ∷
+    --   GRG_ 3F800000 C0A00000
+    0x20 ∷ 0x20 ∷ 0x47 ∷ 0x52 ∷ 0x47 ∷ 0x5F ∷ 0x20 ∷ 0x33 ∷ 0x46 ∷ 0x38 ∷ 0x30 ∷ 0x30 ∷ 0x30 ∷ 0x30 ∷ 0x30 ∷ 0x20 ∷ 0x43 ∷ 0x30 ∷ 0x41 ∷ 0x30 ∷ 0x30 ∷ 0x30 ∷ 0x30 ∷ 0x30 ∷ 0x0A ∷
+    []
+unfolding decimal decimalBy hexDigits
+example-dump = refl
+
+-- ---- decimal digits read back
+
+-- the number of some digits, behind one that was read
+abbrev pub readFrom : ℕ → List ℕ → ℕ
+readFrom a [] = a
+readFrom a (d ∷ l) = readFrom (a * 10 + (d - 0x30)) l
+
+read-append : (a : ℕ) (l m : List ℕ) → readFrom a (l ++ m) ≡ readFrom (readFrom a l) m
+read-append a [] m = refl
+read-append a (d ∷ l) m = read-append (a * 10 + (d - 0x30)) l m
+
+-- by the number of digits
+module _ (P : ℕ → Type 0) (one : (n : ℕ) → n < 10 → P n) (more : (n : ℕ) → 9 < n → P (n / 10) → P n) where
+  digits-by : (f n : ℕ) (b : Bool) → ltb n 10 ≡ b → (9 < n → P (n / 10)) → P n
+  digits-by f n true e r = one n (ltb-true n 10 e)
+  digits-by f n false e r = let h = ltb-false n 10 e in more n (omega arith) (r (omega arith))
+
+  digits-fuel : (f n : ℕ) → n < f → P n
+  digits-fuel zero n h = absurd (omega arith)
+  digits-fuel (suc f) n h = digits-by f n (ltb n 10) refl (λ (k : 9 < n). digits-fuel f (n / 10) (omega arith))
+
+  -- what holds of one digit, and with a digit more, holds of every number
+  by-digits : (n : ℕ) → P n
+  by-digits n = digits-fuel (suc n) n (omega arith)
+
+ReadsBack : ℕ → Type 0
+ReadsBack n = readFrom 0 (decimal n) ≡ n
+
+back-one : (n : ℕ) → n < 10 → ReadsBack n
+unfolding ReadsBack
+back-one n h = rw (decimal-one n h) (omega arith)
+
+back-more : (n : ℕ) → 9 < n → ReadsBack (n / 10) → ReadsBack n
+unfolding ReadsBack
+back-more n h r = rw (decimal-more n h, read-append 0 (decimal (n / 10)) (digit (n % 10) ∷ []), r) (omega arith)
+
+-- the digits of a number make the number
+pub reads-back : (n : ℕ) → readFrom 0 (decimal n) ≡ n
+unfolding ReadsBack
+reads-back n = by-digits ReadsBack back-one back-more n
+
+-- there is a digit, and the first is 0 only where the number is
+FirstDigit : ℕ → Type 0
+FirstDigit n = (0 < length (decimal n)) × (getD (decimal n) 0 0 ≡ 0x30 → n ≡ 0)
+
+first-one : (n : ℕ) → n < 10 → FirstDigit n
+unfolding FirstDigit
+first-one n h = rw (decimal-one n h) (omega arith, λ e. omega arith)
+
+first-more : (n : ℕ) → 9 < n → FirstDigit (n / 10) → FirstDigit n
+unfolding FirstDigit
+first-more n h r =
+    rw (decimal-more n h, length-append (decimal (n / 10)) (digit (n % 10) ∷ []), List·getD-append (decimal (n / 10)) (digit (n % 10) ∷ []) 0 0 (r .0))
+    (omega arith, λ e. let z = r .1 e in absurd (omega arith))
+
+pub no-leading-zero : (n : ℕ) → (0 < length (decimal n)) × (getD (decimal n) 0 0 ≡ 0x30 → n ≡ 0)
+unfolding FirstDigit
+no-leading-zero n = by-digits FirstDigit first-one first-more n

@@ -1,0 +1,77 @@
+// The lines of a listing, each with its newline.
+ghost use mathlib.Core.Path.{_≡_};
+ghost use Rattle.reader.specs.Item.{itemSaid};
+ghost use Rattle.listing.specs.Text.{textOf};
+ghost use Rattle.listing.specs.Lines.{firstLine, countLine, stretchLine, answerLine, lastLine, longLine, noneLine};
+use crate::chunk::chunk;
+use crate::text::Text;
+use crate::text::joined;
+use crate::text::word;
+use crate::words::newline;
+use crate::words::number;
+use crate::words::numbered;
+use num::Order;
+use reader::Item;
+
+// The order and the number of bytes.
+pub fn first_line(order: Order, n: usize) -> Text
+    ensures { λ r. ⌜ r ≡ textOf (firstLine order n) ⌝ }
+{
+    match order {
+        Order::Big => counted(b"pxgf big", n),
+        Order::Little => counted(b"pxgf little", n),
+    }
+}
+
+// The line of what a step gives; no byte for the end and for a refusal.
+pub fn item_line(item: Item) -> Text
+    ensures { λ r. ⌜ r ≡ textOf (answerLine (itemSaid item)) ⌝ }
+{
+    match item {
+        Item::PastEnd | Item::BadState | Item::End => word(b""),
+        Item::Skipped { place, length } => stretch(b"skip", place, length),
+        Item::Unfinished { place, length } => stretch(b"cut", place, length),
+        Item::Chunk {
+            place,
+            code,
+            size,
+            verdict,
+        } => chunk(place, code, size, verdict),
+    }
+}
+
+// The number of items.
+pub fn last_line(count: usize) -> Text
+    ensures { λ r. ⌜ r ≡ textOf (lastLine count) ⌝ }
+{
+    counted(b"end", count)
+}
+
+// There are more bytes than are read.
+pub fn long_line() -> Text
+    ensures { λ r. ⌜ r ≡ textOf longLine ⌝ }
+{
+    word(b"long\n")
+}
+
+// There is no sync word.
+pub fn none_line() -> Text
+    ensures { λ r. ⌜ r ≡ textOf noneLine ⌝ }
+{
+    word(b"none\n")
+}
+
+// A head and a number.
+fn counted(head: &[u8], n: usize) -> Text
+    ensures { λ r. ⌜ r ≡ textOf (countLine (now (head .entry)) n) ⌝ }
+{
+    joined(numbered(head, n), newline())
+}
+
+// A head, and the place and length of a stretch of bytes.
+fn stretch(head: &[u8], place: usize, length: usize) -> Text
+    ensures { λ r. ⌜ r ≡ textOf (stretchLine (now (head .entry)) place length) ⌝ }
+{
+    let t = joined(numbered(head, place), number(length));
+    joined(t, newline())
+}
