@@ -8,10 +8,14 @@ no-hertz-requires : tie.Need-no-hertz-requires
 no-hertz-requires c κs = search needs
 
 returns : tie.Need-returns
-returns c = rw (eq-eqb _ _ (c .if1 .taken))
+returns c =
+    let a = c .before .before .args in
+    rw (eq-eqb (a .h .n) (a .n) (c .if1 .taken))
 
 returns-2 : tie.Need-returns-2
-returns-2 c = rw (ne-eqb _ _ (c .before .if1 .left), c .no-hertz .ensures)
+returns-2 c =
+    let a = c .before .before .before .args in
+    rw (ne-eqb (a .h .n) (a .n) (c .before .if1 .left), c .no-hertz .ensures)
 
 pub hertz-of-spec : {M : Type 1} → statement M
 hertz-of-spec = tie.close (tie.spec no-hertz-requires returns returns-2)

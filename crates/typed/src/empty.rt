@@ -1,0 +1,25 @@
+// The kinds that are empty.
+ghost use mathlib.Core.Path.{_≡_};
+ghost use mathlib.Core.List.{[]};
+ghost use lib.ListN.{length};
+ghost use Rattle.body.specs.Kind.{codeOf};
+ghost use Rattle.body.specs.declared.kind.Kind.the-variants as K;
+ghost use Rattle.writer.specs.Write.{writeOf, writtenOut, writtenSaid};
+use num::Order;
+use writer::Written;
+
+// EOFH: the end of a file's header.
+pub fn eofh(order: Order, out: &mut [u8], place: usize) -> Written
+    ensures said { λ r. ⌜ writtenSaid r ≡ writeOf order (codeOf K.EOFH) [] (length (now (out .entry))) place ⌝ }
+    ensures left { λ _. ⌜ now (out .exit) ≡ writtenOut order (codeOf K.EOFH) [] (now (out .entry)) place ⌝ }
+{
+    writer::write(order, 0x454F_4648, &[], out, place)
+}
+
+// IQDC: a break in the samples.
+pub fn iqdc(order: Order, out: &mut [u8], place: usize) -> Written
+    ensures said { λ r. ⌜ writtenSaid r ≡ writeOf order (codeOf K.IQDC) [] (length (now (out .entry))) place ⌝ }
+    ensures left { λ _. ⌜ now (out .exit) ≡ writtenOut order (codeOf K.IQDC) [] (now (out .entry)) place ⌝ }
+{
+    writer::write(order, 0x4951_4443, &[], out, place)
+}

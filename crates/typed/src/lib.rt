@@ -1,0 +1,5 @@
+// A record of a kind, written from its values: the raw call on the bytes that they make.
+pub mod band;
+pub mod empty;
+pub mod level;
+pub mod number;

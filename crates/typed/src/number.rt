@@ -1,0 +1,75 @@
+// The kinds that are one whole number, each written from it.
+ghost use mathlib.Core.Path.{_≡_};
+ghost use lib.ListN.{length};
+ghost use Rattle.body.specs.Kind.{codeOf};
+ghost use Rattle.body.specs.declared.kind.Kind.the-variants as K;
+ghost use Rattle.writer.specs.Write.{writeOf, writtenOut, writtenSaid};
+ghost use Rattle.typed.specs.Bodies.{int32, int64};
+use num::Order;
+use writer::Written;
+
+// A record of one int32.
+fn word(order: Order, code: u32, x: i32, out: &mut [u8], place: usize) -> Written
+    ensures said { λ r. ⌜ writtenSaid r ≡ writeOf order code (int32 order x) (length (now (out .entry))) place ⌝ }
+    ensures left { λ _. ⌜ now (out .exit) ≡ writtenOut order code (int32 order x) (now (out .entry)) place ⌝ }
+{
+    let body = num::i32_bytes(order, x);
+    writer::write(order, code, &body, out, place)
+}
+
+// A record of one int64.
+fn long(order: Order, code: u32, x: i64, out: &mut [u8], place: usize) -> Written
+    ensures said { λ r. ⌜ writtenSaid r ≡ writeOf order code (int64 order x) (length (now (out .entry))) place ⌝ }
+    ensures left { λ _. ⌜ now (out .exit) ≡ writtenOut order code (int64 order x) (now (out .entry)) place ⌝ }
+{
+    let body = num::i64_bytes(order, x);
+    writer::write(order, code, &body, out, place)
+}
+
+// SIQP: 1 for I before Q, 0 for Q before I.
+pub fn siqp(order: Order, x: i32, out: &mut [u8], place: usize) -> Written
+    ensures said { λ r. ⌜ writtenSaid r ≡ writeOf order (codeOf K.SIQP) (int32 order x) (length (now (out .entry))) place ⌝ }
+    ensures left { λ _. ⌜ now (out .exit) ≡ writtenOut order (codeOf K.SIQP) (int32 order x) (now (out .entry)) place ⌝ }
+{
+    word(order, 0x5349_5150, x, out, place)
+}
+
+// SR__: the sample rate, in µHz.
+pub fn sr(order: Order, x: i64, out: &mut [u8], place: usize) -> Written
+    ensures said { λ r. ⌜ writtenSaid r ≡ writeOf order (codeOf K.SR) (int64 order x) (length (now (out .entry))) place ⌝ }
+    ensures left { λ _. ⌜ now (out .exit) ≡ writtenOut order (codeOf K.SR) (int64 order x) (now (out .entry)) place ⌝ }
+{
+    long(order, 0x5352_5F5F, x, out, place)
+}
+
+// BW__: the bandwidth, in µHz.
+pub fn bw(order: Order, x: i64, out: &mut [u8], place: usize) -> Written
+    ensures said { λ r. ⌜ writtenSaid r ≡ writeOf order (codeOf K.BW) (int64 order x) (length (now (out .entry))) place ⌝ }
+    ensures left { λ _. ⌜ now (out .exit) ≡ writtenOut order (codeOf K.BW) (int64 order x) (now (out .entry)) place ⌝ }
+{
+    long(order, 0x4257_5F5F, x, out, place)
+}
+
+// GCBW: the bandwidth of each channel of a group, in µHz.
+pub fn gcbw(order: Order, x: i64, out: &mut [u8], place: usize) -> Written
+    ensures said { λ r. ⌜ writtenSaid r ≡ writeOf order (codeOf K.GCBW) (int64 order x) (length (now (out .entry))) place ⌝ }
+    ensures left { λ _. ⌜ now (out .exit) ≡ writtenOut order (codeOf K.GCBW) (int64 order x) (now (out .entry)) place ⌝ }
+{
+    long(order, 0x4743_4257, x, out, place)
+}
+
+// CF__: the centre frequency, in µHz.
+pub fn cf(order: Order, x: i64, out: &mut [u8], place: usize) -> Written
+    ensures said { λ r. ⌜ writtenSaid r ≡ writeOf order (codeOf K.CF) (int64 order x) (length (now (out .entry))) place ⌝ }
+    ensures left { λ _. ⌜ now (out .exit) ≡ writtenOut order (codeOf K.CF) (int64 order x) (now (out .entry)) place ⌝ }
+{
+    long(order, 0x4346_5F5F, x, out, place)
+}
+
+// SOFH: the start of a file's header, with its number.
+pub fn sofh(order: Order, x: i32, out: &mut [u8], place: usize) -> Written
+    ensures said { λ r. ⌜ writtenSaid r ≡ writeOf order (codeOf K.SOFH) (int32 order x) (length (now (out .entry))) place ⌝ }
+    ensures left { λ _. ⌜ now (out .exit) ≡ writtenOut order (codeOf K.SOFH) (int32 order x) (now (out .entry)) place ⌝ }
+{
+    word(order, 0x534F_4648, x, out, place)
+}
