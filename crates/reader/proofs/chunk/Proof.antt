@@ -1,5 +1,8 @@
 -- The cursor is accepted, and the chunk takes effect on its state.
 use borrow.Author.Needs.{needs}
+use Rattle.body.specs.Kind.{kindOf}
+use Rattle.effect.specs.Effect.{effect}
+use Rattle.effect.specs.Took.{Took}
 use Rattle.reader.proofs.chunk.Statement.{statement}
 use Rattle.reader.proofs.chunk.Tie as tie
 
@@ -21,9 +24,11 @@ take-requires c κs = search needs
 returns : tie.Need-returns
 returns c =
     let a = c .before .before .before .before .before .before .args in
-    let t = rw (c .before .before .before .kind-of .ensures, c .before .before .before .before .accept .ensures) at (c .before .before .take .ensures) in
-    let q = c .before .before .before .before .accept .ensures in
-    record { item = rw (← t .says); shown = t .shown; cursor = rw (q, t .after) }
+    let next = c .before .before .before .before .accept in
+    let met : Took (c .before .before .take .result) (effect (a .order) (kindOf (a .code)) (a .body .now) (next .result .state)) =
+    rw (c .before .before .before .kind-of .ensures) at (c .before .before .take .ensures) in
+    let t = rw (next .ensures) at met in
+    record { item = rw (← t .says); shown = t .shown; cursor = rw (next .ensures, t .after) }
 
 pub chunk-spec : {M : Type 1} → statement M
 chunk-spec =
