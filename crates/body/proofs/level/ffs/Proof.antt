@@ -1,4 +1,7 @@
 -- The finite float of the body, where it is above 0.
+use mathlib.Core.Bool.{true, false}
+use mathlib.Core.Path.{_≡_}
+use lib.Ieee.{binary32, ofBits, lt}
 use borrow.Author.Needs.{needs}
 use Rattle.body.proofs.level.ffs.Statement.{statement}
 use Rattle.body.proofs.level.ffs.Tie as tie
@@ -13,10 +16,16 @@ enum-known-f : tie.Need-enum-known-f
 enum-known-f c = search needs
 
 returns : tie.Need-returns
-returns c = rw (← c .before .before .before .before .finite .ensures, c .before .before .x .given .1, c .if1 .taken)
+returns c =
+    let x = c .before .before .x .given in
+    let k : lt (ofBits binary32 0) (x .0 .0) ≡ true = c .if1 .taken in
+    rw (← c .before .before .before .before .finite .ensures, x .1, k)
 
 returns-2 : tie.Need-returns-2
-returns-2 c = rw (← c .before .before .before .before .finite .ensures, c .before .before .x .given .1, c .if1 .left)
+returns-2 c =
+    let x = c .before .before .x .given in
+    let k : lt (ofBits binary32 0) (x .0 .0) ≡ false = c .if1 .left in
+    rw (← c .before .before .before .before .finite .ensures, x .1, k)
 
 returns-3 : tie.Need-returns-3
 returns-3 c = rw (← c .before .before .before .finite .ensures, c .before .f .given .1)

@@ -1,5 +1,5 @@
 -- The parts that are looked at are what stands after the text and the text itself.
-use Prim.Native.Nat.{_+_, _-_}
+use Prim.Native.Nat.{_+_, _-_, _*_, _/_}
 use mathlib.Core.Path.{_≡_, ap, _∙_}
 use native.Mathlib.Omega.{arith}
 use borrow.Author.Tests.{eq-eqb, ne-eqb, not-true, not-false}
@@ -22,7 +22,9 @@ add-if1-2 c = search needs
 
 returns : tie.Need-returns
 unfolding texts
-returns c = rw (ne-eqb _ _ (c .if1 .taken))
+returns c =
+    let a = c .before .before .args in
+    rw (ne-eqb (length (a .body .now)) (4 + (a .n + 3) / 4 * 4) (c .if1 .taken))
 
 -- what stands after the text, and what stands in it
 tail-told : (c : tie.After-zeros) →
