@@ -1,0 +1,127 @@
+// The lines of a dump for the values of a state that are present.
+use crate::put;
+use body::group::GroupGains;
+use body::group::GroupHertz;
+use body::group::GroupPacking;
+use listing::Label;
+use listing::words::decimal;
+use listing::words::hex_word;
+use listing::words::label;
+use listing::words::newline;
+use listing::words::number;
+use state::BandHeld;
+use state::Held;
+use state::LevelHeld;
+use state::State;
+
+// The start mark, then each value, in the order of the kinds.
+pub(crate) fn all(state: State) {
+    put(label(Label::Mark));
+    flag(state.mark);
+    put(newline());
+    held(Label::Packing, state.packing);
+    held(Label::Rate, state.rate);
+    band(state.band);
+    held(Label::GroupBandwidth, state.group_band);
+    held(Label::Frequency, state.centre);
+    level(Label::FullScale, state.full_scale);
+    level(Label::TotalGain, state.total_gain);
+    level(Label::FloatScale, state.float_scale);
+    packing(state.group);
+    hertz(state.frequencies);
+    gains(state.gains);
+}
+
+// 1 or 0.
+fn flag(yes: bool) {
+    if yes {
+        put(number(1));
+    } else {
+        put(number(0));
+    }
+}
+
+fn held(which: Label, value: Held) {
+    if value.present {
+        put(label(which));
+        put(decimal(value.value));
+        put(newline());
+    }
+}
+
+fn band(value: BandHeld) {
+    if value.present {
+        put(label(Label::Bandwidth));
+        put(decimal(value.width));
+        put(decimal(value.offset));
+        put(newline());
+    }
+}
+
+fn level(which: Label, value: LevelHeld) {
+    if value.present {
+        put(label(which));
+        pattern(value.value);
+        put(newline());
+    }
+}
+
+// A float's pattern. No state that is shown holds a NaN.
+fn pattern(x: f32) {
+    if x == x {
+        put(hex_word(f32::to_bits(x)));
+    } else {
+        put(hex_word(0x7FC0_0000));
+    }
+}
+
+fn wide(x: u32) -> usize {
+    x as usize
+}
+
+fn packing(group: GroupPacking) {
+    let n = group.n;
+    if 0 < n {
+        put(label(Label::GroupPacking));
+        put(number(n));
+        flag(group.iq);
+        put(number(group.increment as usize));
+        let offsets = group.offsets;
+        for c in 0..16 {
+            if c < n {
+                put(number(wide(offsets[c])));
+            }
+        }
+        put(newline());
+    }
+}
+
+fn hertz(group: GroupHertz) {
+    let n = group.n;
+    if 0 < n {
+        put(label(Label::GroupFrequencies));
+        put(number(n));
+        let values = group.values;
+        for c in 0..16 {
+            if c < n {
+                put(decimal(values[c]));
+            }
+        }
+        put(newline());
+    }
+}
+
+fn gains(group: GroupGains) {
+    let n = group.n;
+    if 0 < n {
+        put(label(Label::GroupGains));
+        put(number(n));
+        let values = group.values;
+        for c in 0..16 {
+            if c < n {
+                pattern(values[c]);
+            }
+        }
+        put(newline());
+    }
+}
