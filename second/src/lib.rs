@@ -7,7 +7,8 @@
 //! [`cover`] decide what a data chunk means, [`reader`] joins them, and
 //! [`samples`] copies numbers out. On top stand [`mod@list`], [`mod@dump`],
 //! [`filecheck`] and [`write`](mod@write); [`make`](mod@make) and
-//! [`recordings`] put streams together.
+//! [`recordings`] put streams together, and [`trials`] holds what is
+//! compared.
 
 pub mod body;
 pub mod check;
@@ -20,6 +21,7 @@ pub mod kind;
 pub mod list;
 pub mod make;
 pub mod order;
+pub mod pack;
 pub mod possible;
 pub mod reader;
 pub mod recordings;
@@ -27,6 +29,7 @@ pub mod rng;
 pub mod samples;
 pub mod search;
 pub mod state;
+pub mod trials;
 pub mod utf8;
 pub mod values;
 pub mod verdicts;

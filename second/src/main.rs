@@ -9,8 +9,9 @@ use std::process::ExitCode;
 use second::filecheck::check_file;
 use second::list::MOST_BYTES;
 use second::order::Order;
-use second::verdicts::Verdicts;
-use second::{dump, list, make, recordings, utf8, write};
+use second::trials::Met;
+use second::verdicts::{Pair, Verdicts};
+use second::{dump, list, make, pack, recordings, trials, utf8, write};
 
 const USAGE: &str = "usage: second list FILE
        second dump FILE
@@ -19,6 +20,9 @@ const USAGE: &str = "usage: second list FILE
        second verdicts FILE...
        second write big|little [--bytes]
        second samples DIR
+       second streams SEED COUNT MOST
+       second trials FILE
+       second met FILE
        second utf8 FILE
        second utf8make SEED COUNT";
 
@@ -51,14 +55,35 @@ fn run(words: &[&str]) -> Result<ExitCode, String> {
         ["write", order] => write_records(parse_order(order)?, false),
         ["write", order, "--bytes"] => write_records(parse_order(order)?, true),
         ["samples", dir] => write_samples(Path::new(dir)),
+        ["streams", seed, count, most] => {
+            let (seed, count, most) = (
+                parse_number(seed)?,
+                parse_number(count)?,
+                parse_number(most)?,
+            );
+            print(&pack_streams(&trials::streams(
+                seed,
+                count as usize,
+                most as usize,
+            ))?)
+        }
+        ["trials", file] => {
+            let (text, _) = run_trials(file)?;
+            print(text.as_bytes())
+        }
+        ["met", file] => {
+            let (_, met) = run_trials(file)?;
+            print(met.table().as_bytes())?;
+            Ok(report(&met.missing(), &met.outside()))
+        }
         ["utf8", file] => {
             let verdicts = utf8::judge_strings(&read(file)?)
-                .ok_or_else(|| format!("{file} ends inside a string"))?;
+                .ok_or_else(|| format!("{file} is no file of strings"))?;
             print(format!("{verdicts}\n").as_bytes())
         }
         ["utf8make", seed, count] => {
             let mut out = BufWriter::new(io::stdout().lock());
-            utf8::make_strings(parse_number(seed)?, parse_number(count)?, &mut out)
+            utf8::make_strings(parse_number(seed)?, parse_number(count)? as usize, &mut out)
                 .and_then(|()| out.flush())
                 .map_err(|e| e.to_string())?;
             Ok(ExitCode::SUCCESS)
@@ -109,18 +134,52 @@ fn count_verdicts(files: &[&str]) -> Result<ExitCode, String> {
         .map(|((kind, verdict), count)| format!("{kind} {verdict} {count}\n"))
         .collect();
     print(table.as_bytes())?;
-    let (missing, outside) = (verdicts.missing(), verdicts.outside());
-    for (kind, verdict) in &missing {
-        eprintln!("not met: {kind} {verdict}");
+    let words = |pairs: Vec<Pair>| -> Vec<String> {
+        pairs
+            .iter()
+            .map(|(kind, verdict)| format!("{kind} {verdict}"))
+            .collect()
+    };
+    Ok(report(
+        &words(verdicts.missing()),
+        &words(verdicts.outside()),
+    ))
+}
+
+/// Names the answers that were not met, and those that no stream can give.
+fn report(missing: &[String], outside: &[String]) -> ExitCode {
+    for answer in missing {
+        eprintln!("not met: {answer}");
     }
-    for (kind, verdict) in &outside {
-        eprintln!("cannot occur: {kind} {verdict}");
+    for answer in outside {
+        eprintln!("cannot occur: {answer}");
     }
     if missing.is_empty() && outside.is_empty() {
-        Ok(ExitCode::SUCCESS)
+        ExitCode::SUCCESS
     } else {
-        Ok(ExitCode::FAILURE)
+        ExitCode::FAILURE
     }
+}
+
+fn pack_streams(streams: &[Vec<u8>]) -> Result<Vec<u8>, String> {
+    let mut file = Vec::new();
+    pack::put_number(streams.len(), &mut file).map_err(|e| e.to_string())?;
+    for stream in streams {
+        pack::put_string(stream, &mut file).map_err(|e| e.to_string())?;
+    }
+    Ok(file)
+}
+
+/// The lines of all streams of a file, and what they met.
+fn run_trials(file: &str) -> Result<(String, Met), String> {
+    let bytes = read(file)?;
+    let streams = pack::unpack(&bytes).ok_or_else(|| format!("{file} is no file of streams"))?;
+    let mut met = Met::default();
+    let text = streams
+        .iter()
+        .map(|stream| trials::trial(stream, &mut met))
+        .collect();
+    Ok((text, met))
 }
 
 /// Prints a verdict for each record, or the bytes of the accepted ones.

@@ -1,10 +1,8 @@
 //! Strings, good and damaged, and files of many of them.
-//!
-//! Such a file holds for each string its length as a little-order 32-bit
-//! number and then its bytes.
 
 use std::io::{self, Write};
 
+use crate::pack;
 use crate::rng::Rng;
 
 /// Byte sequences that no UTF-8 text holds between two whole characters.
@@ -118,27 +116,22 @@ fn any(rng: &mut Rng) -> Vec<u8> {
 }
 
 /// Writes a file of `count` strings.
-pub fn make_strings(seed: u64, count: u64, out: &mut impl Write) -> io::Result<()> {
+pub fn make_strings(seed: u64, count: usize, out: &mut impl Write) -> io::Result<()> {
     let mut rng = Rng::new(seed);
+    pack::put_number(count, out)?;
     for _ in 0..count {
-        let text = any(&mut rng);
-        out.write_all(&(text.len() as u32).to_le_bytes())?;
-        out.write_all(&text)?;
+        pack::put_string(&any(&mut rng), out)?;
     }
     Ok(())
 }
 
 /// One character for each string of such a file, `1` if it is valid. None if
-/// the file ends inside a string.
+/// it is no such file.
 pub fn judge_strings(file: &[u8]) -> Option<String> {
-    let mut verdicts = String::new();
-    let mut rest = file;
-    while !rest.is_empty() {
-        let (len, after) = rest.split_first_chunk::<4>()?;
-        let (text, after) = after.split_at_checked(u32::from_le_bytes(*len) as usize)?;
-        let valid = std::str::from_utf8(text).is_ok();
-        verdicts.push(if valid { '1' } else { '0' });
-        rest = after;
-    }
-    Some(verdicts)
+    let strings = pack::unpack(file)?;
+    let judge = |text: &[u8]| match std::str::from_utf8(text) {
+        Ok(_) => '1',
+        Err(_) => '0',
+    };
+    Some(strings.into_iter().map(judge).collect())
 }

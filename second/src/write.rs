@@ -8,17 +8,23 @@ use crate::order::Order;
 
 #[derive(Clone, Copy, Debug, PartialEq, Eq)]
 pub enum WriteRefusal {
+    /// The place lies past the end of the output.
+    Place,
     /// The body's size is not one a chunk can have.
     Size,
     /// The type is known and the body isn't one of its kind.
     Malformed(Fault),
+    /// The chunk doesn't fit into what is left of the output.
+    Room,
 }
 
 impl WriteRefusal {
     pub const fn number(self) -> u32 {
         match self {
+            WriteRefusal::Place => 2,
             WriteRefusal::Size => 32,
             WriteRefusal::Malformed(fault) => fault.number(),
+            WriteRefusal::Room => 31,
         }
     }
 }
@@ -44,6 +50,24 @@ pub fn write_record(
     out.extend(order.put_u32(size));
     out.extend(body);
     Ok(body.len())
+}
+
+/// Writes one record at a place of `out` and gives the place after it. A
+/// refusal leaves the output as it was.
+pub fn write_at(
+    order: Order,
+    code: u32,
+    body: &[u8],
+    out: &mut [u8],
+    place: usize,
+) -> Result<usize, WriteRefusal> {
+    let rest = out.get_mut(place..).ok_or(WriteRefusal::Place)?;
+    let mut chunk = Vec::new();
+    write_record(order, code, body, &mut chunk)?;
+    rest.get_mut(..chunk.len())
+        .ok_or(WriteRefusal::Room)?
+        .copy_from_slice(&chunk);
+    Ok(place + chunk.len())
 }
 
 /// A line of input: a type, as eight hex digits or the four letters of a

@@ -99,7 +99,7 @@ fn strings_of_both_sorts() {
     }
     assert!(judge_strings(&file[..file.len() - 1]).is_none());
     assert_eq!(
-        judge_strings(b"\x01\0\0\0a\x02\0\0\0\xC0\x80\0\0\0\0").as_deref(),
+        judge_strings(b"\x03\0\0\0\x01\0\0\0a\x02\0\0\0\xC0\x80\0\0\0\0").as_deref(),
         Some("101")
     );
 }

@@ -19,8 +19,8 @@ fn put(t: Text) {
     let bytes = t.bytes;
     let len = t.len;
     let all: &[u8] = &bytes;
-    if len <= 96 {
-        io::write_all(STDOUT_FILENO, &all[..len]);
+    if len <= all.len() {
+        io::write_all(STDOUT_FILENO, &all[0..len]);
     }
 }
 

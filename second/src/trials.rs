@@ -1,0 +1,252 @@
+//! What is compared with the library for each stream: its dump, the file
+//! check in both orders, and digests of what copying and writing answer and
+//! leave behind.
+
+use std::collections::BTreeMap;
+
+use crate::dump::dump;
+use crate::filecheck::check_file;
+use crate::list::{line, list, MOST_BYTES};
+use crate::make::make;
+use crate::order::Order;
+use crate::reader::{Item, Reader, Verdict};
+use crate::samples::CopyRefusal;
+use crate::verdicts::Verdicts;
+use crate::write::write_at;
+
+/// The channels copied from, and the lengths of the outputs copied into.
+const CHANNELS: [usize; 4] = [0, 1, 15, 16];
+const ROOMS: [usize; 3] = [0, 6, 64];
+
+/// The length of the output written into.
+const OUT_BYTES: usize = 512;
+
+/// A running digest of numbers.
+struct Digest(u64);
+
+impl Digest {
+    const PRIME: u64 = 4_294_967_291;
+
+    fn new() -> Self {
+        Digest(1)
+    }
+
+    fn add(&mut self, number: u64) {
+        self.0 = (self.0 * 31 + number) % Self::PRIME;
+    }
+
+    /// A refusal's number, after one that no count or place reaches.
+    fn add_refusal(&mut self, number: u32) {
+        self.add(4_000_000_000);
+        self.add(number.into());
+    }
+}
+
+/// How often each answer was met.
+#[derive(Default)]
+pub struct Met {
+    verdicts: Verdicts,
+    answers: BTreeMap<String, usize>,
+}
+
+impl Met {
+    fn answer(&mut self, call: &str, answer: &str) {
+        *self.answers.entry(format!("{call} {answer}")).or_default() += 1;
+    }
+
+    /// A line for each answer with its count.
+    pub fn table(&self) -> String {
+        let mut text = String::new();
+        for ((kind, verdict), count) in self.verdicts.counts() {
+            line(&mut text, format_args!("{kind} {verdict} {count}"));
+        }
+        for (answer, count) in &self.answers {
+            line(&mut text, format_args!("{answer} {count}"));
+        }
+        text
+    }
+
+    /// The answers that there are and that were not met.
+    pub fn missing(&self) -> Vec<String> {
+        let verdicts = self.verdicts.missing();
+        let verdicts = verdicts
+            .iter()
+            .map(|(kind, verdict)| format!("{kind} {verdict}"));
+        let answers = expected().filter(|answer| !self.answers.contains_key(answer));
+        verdicts.chain(answers).collect()
+    }
+
+    /// The answers that were met and that no stream can give.
+    pub fn outside(&self) -> Vec<String> {
+        let verdicts = self.verdicts.outside();
+        let verdicts = verdicts
+            .iter()
+            .map(|(kind, verdict)| format!("{kind} {verdict}"));
+        let answers = self
+            .answers
+            .keys()
+            .filter(|met| !expected().any(|e| e == **met));
+        verdicts.chain(answers.cloned()).collect()
+    }
+}
+
+/// The answers of the file check, of copying and of writing.
+fn expected() -> impl Iterator<Item = String> {
+    let calls: [(&str, &[&str]); 3] = [
+        ("check", &["good", "41", "42", "43", "44"]),
+        ("copy", &["count", "33", "34", "35"]),
+        (
+            "write",
+            &["next", "2", "11", "12", "13", "14", "15", "31", "32"],
+        ),
+    ];
+    calls
+        .into_iter()
+        .flat_map(|(call, answers)| answers.iter().map(move |answer| format!("{call} {answer}")))
+}
+
+/// The streams of a trial: the first `count` from seed `from` on that have at
+/// most `most` bytes, and then every one that meets a verdict not met before,
+/// until all are. Those too long to be listed are cut to the byte that shows
+/// it.
+pub fn streams(from: u64, count: usize, most: usize) -> Vec<Vec<u8>> {
+    let mut verdicts = Verdicts::default();
+    let mut streams = Vec::new();
+    let mut take = |mut stream: Vec<u8>, verdicts: &mut Verdicts| {
+        stream.truncate(MOST_BYTES + 1);
+        verdicts.add(&list(&stream)).expect("a listing");
+        streams.push(stream);
+    };
+    for stream in (from..).map(make).filter(|s| s.len() <= most).take(count) {
+        take(stream, &mut verdicts);
+    }
+    for stream in (from..).map(make) {
+        let missing = verdicts.missing().len();
+        if missing == 0 {
+            break;
+        }
+        let mut with = verdicts.clone();
+        with.add(&list(&stream)).expect("a listing");
+        if with.missing().len() < missing {
+            take(stream, &mut verdicts);
+        }
+    }
+    streams
+}
+
+/// The lines of one stream.
+pub fn trial(stream: &[u8], met: &mut Met) -> String {
+    let mut text = dump(stream);
+    met.verdicts
+        .add(&text)
+        .expect("the lines are those of a dump");
+    for order in [Order::Big, Order::Little] {
+        let answer = match check_file(order, stream) {
+            Ok(items) => {
+                met.answer("check", "good");
+                format!("good {items}")
+            }
+            Err(refusal) => {
+                met.answer("check", &refusal.number().to_string());
+                format!("refused {} {}", refusal.number(), refusal.place())
+            }
+        };
+        line(&mut text, format_args!("check {} {answer}", order.name()));
+    }
+    for order in [Order::Big, Order::Little] {
+        let digest = copies(order, stream, met);
+        line(&mut text, format_args!("copies {} {digest}", order.name()));
+    }
+    for (name, read, written) in [
+        ("big", Order::Big, Order::Big),
+        ("little", Order::Little, Order::Little),
+        ("turned", Order::Big, Order::Little),
+    ] {
+        let digest = writes(read, written, stream, met);
+        line(&mut text, format_args!("writes {name} {digest}"));
+    }
+    text
+}
+
+/// Copies of both widths out of every item. What is no ready data chunk of
+/// the width refuses them all.
+fn copies(order: Order, stream: &[u8], met: &mut Met) -> u64 {
+    let mut digest = Digest::new();
+    for item in Reader::new(order, stream) {
+        let ready = match &item {
+            Item::Chunk {
+                verdict: Verdict::Ready(ready),
+                ..
+            } => Some(ready),
+            _ => None,
+        };
+        let mut told = |answer: Result<usize, CopyRefusal>, digest: &mut Digest| match answer {
+            Ok(count) => {
+                met.answer("copy", "count");
+                digest.add(count as u64);
+            }
+            Err(refusal) => {
+                met.answer("copy", &refusal.number().to_string());
+                digest.add_refusal(refusal.number());
+            }
+        };
+        for channel in CHANNELS {
+            for room in ROOMS {
+                let mut shorts = [-0x5556i16; 64];
+                let answer = match ready {
+                    Some(ready) => ready.copy_shorts(channel, &mut shorts[..room]),
+                    None => Err(CopyRefusal::Width),
+                };
+                told(answer, &mut digest);
+                for number in shorts {
+                    digest.add(u64::from(number as u16));
+                }
+                let mut patterns = [0xAAAA_AAAAu32; 64];
+                let answer = match ready {
+                    Some(ready) => ready.copy_patterns(channel, &mut patterns[..room]),
+                    None => Err(CopyRefusal::Width),
+                };
+                told(answer, &mut digest);
+                for pattern in patterns {
+                    digest.add(pattern.into());
+                }
+            }
+        }
+    }
+    digest.0
+}
+
+/// Each chunk written as a record: past the end, without its body's last
+/// byte, and as it is, after those before it.
+fn writes(read: Order, written: Order, stream: &[u8], met: &mut Met) -> u64 {
+    let mut digest = Digest::new();
+    let mut out = [0xAA; OUT_BYTES];
+    let mut place = 0;
+    for item in Reader::new(read, stream) {
+        let Item::Chunk { frame, .. } = item else {
+            continue;
+        };
+        let body = frame.body(stream);
+        let less = &body[..body.len().saturating_sub(1)];
+        let mut put =
+            |body: &[u8], at: usize| match write_at(written, frame.code, body, &mut out, at) {
+                Ok(next) => {
+                    met.answer("write", "next");
+                    digest.add(next as u64);
+                    next
+                }
+                Err(refusal) => {
+                    met.answer("write", &refusal.number().to_string());
+                    digest.add_refusal(refusal.number());
+                    at
+                }
+            };
+        put(body, OUT_BYTES + 1);
+        put(less, place);
+        place = put(body, place);
+    }
+    for byte in out {
+        digest.add(byte.into());
+    }
+    digest.0
+}
