@@ -12,7 +12,7 @@ use Rattle.frame.specs.Place.{shows, gap, stops, searchFrom}
 use Rattle.frame.specs.declared.At.{At}
 use Rattle.frame.specs.declared.At.the-variants.{NoSync, Bad, Unfinished, Complete}
 use Rattle.frame.specs.declared.Found.the-variants.{Place}
-use Rattle.frame.proofs.Laws.{gap-stop}
+use Rattle.frame.proofs.Laws.{gap-stop, search-here, search-at}
 use Rattle.frame.proofs.Frames.{gap-le}
 use Rattle.frame.proofs.Theorems.{search-stopped}
 use Rattle.reader.specs.Step.{cursorAt, skips, stepOf}
@@ -95,3 +95,12 @@ module _ (o : Order) (s : List ℕ) (c : Cursor) (k : c .«in_step» ≡ false) 
   -- a searching reader accepts first the chunk that is first among its items
   pub first-found : (p : ℕ) → c .place ≤ length s → BeginsAt p (fromChunk (reading (suc (length s)) o s c)) → AcceptsFirstAt o s c p
   first-found p h b = in-by p (ltb (c .place) (length s)) refl h b
+
+-- A reader in step that comes to no sync or a bad header begins to search there, and accepts first what the search stops at.
+pub lost-first : (o : Order) (s : List ℕ) (c : Cursor) (p code size : ℕ) → unfit c ≡ false → c .place < length s → stops (shows o (drop (c .place) s)) ≡ false →
+    searchFrom o s (c .place) ≡ Place p → shows o (drop p s) ≡ Complete code size → AcceptsFirstAt o s (stepOf o s c .cursor) p
+lost-first o s c p code size u h n w e =
+    let a = search-at o s (c .place) p w in
+    let t : stops (shows o (drop p s)) ≡ true = rw e in
+    let i : stepOf o s c ≡ skips c (gap o (drop (c .place) s)) = step-ahead o s c h u ∙ step-skips o (drop (c .place) s) c (shows o (drop (c .place) s)) n in
+    rw (i, a .0) (record { searching = refl; stopped = search-here o s p p (a .1) t refl; code = code; size = size; complete = e })

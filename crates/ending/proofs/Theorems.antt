@@ -1,8 +1,8 @@
 -- One ending, whatever came before it: items, cursors and samples from the first chunk that a searching reader accepts.
 use Prim.Native.Nat.{ℕ, suc, _+_, _≤_}
-use mathlib.Core.Path.{_≡_, ap, sym, _∙_}
+use mathlib.Core.Path.{_≡_, refl, ap, sym, _∙_}
 use mathlib.Core.Bool.{false}
-use mathlib.Core.List.{List, _++_, map}
+use mathlib.Core.List.{List, [], _++_, map}
 use native.Mathlib.Omega.{arith}
 use lib.ListN.{length}
 use lib.Seq.{drop-append-seam}
@@ -14,7 +14,7 @@ use Rattle.reader.specs.Items.{Given, items}
 use Rattle.reader.specs.Step.{Step, newCursor, stepOf}
 use Rattle.reader.specs.declared.Cursor.{Cursor}
 use Rattle.reader.proofs.Theorems.{reading}
-use Rattle.ending.specs.Ending.{since, givenBy, cursorBy, stepCounted, AcceptsFirstAt, lead, after, fromChunk}
+use Rattle.ending.specs.Ending.{since, onto, givenBy, cursorBy, stepCounted, AcceptsFirstAt, lead, after, fromChunk}
 use Rattle.ending.proofs.Moved.{given-back, step-back}
 use Rattle.ending.proofs.Accepted.{AsIn, as-in, after-suc, first-items}
 use Rattle.ending.proofs.Copied.{SameCopies, copies-as, copies-sym, copies-trans}
@@ -31,12 +31,23 @@ abbrev pub later : ℕ → Order → List ℕ → ℕ → Cursor → Cursor
 later k o s p c = after (lead p c + k) o s c
 
 module _ (o : Order) (x l : List ℕ) (c : Cursor) (f : AcceptsFirstAt o (x ++ l) c (length x)) where
-  as-alone : (k : ℕ) → AsIn o (length x) (x ++ l) (later k o (x ++ l) (length x) c) l (after k o l newCursor)
+  -- read alone, the ending has that chunk first
+  pub alone-first : AcceptsFirstAt o l newCursor 0
+  alone-first =
+      let e : shows o l ≡ Complete (f .code) (f .size) = rw (drop-append-seam x l) at (f .complete) in
+      record { searching = refl; stopped = clean-beginning o [] l (f .code) (f .size) 0 (λ k h. absurd (omega arith)) e (omega arith); code = f .code; size = f .size; complete = e }
+
+  -- each cursor of the reader gives what the cursor after as many steps gives in the ending alone, and has the same bytes ahead
+  pub as-alone : (k : ℕ) → AsIn o (length x) (x ++ l) (later k o (x ++ l) (length x) c) l (after k o l newCursor)
   as-alone k = rw (drop-append-seam x l) at (as-in o (x ++ l) c (length x) f k)
 
-  -- the items are those that the ending gives alone
+  -- the items are those that the ending gives alone, each place as far on as the beginning is long
+  pub ending-items : onward o (x ++ l) c ≡ map (givenBy (onto (length x))) (items o l)
+  ending-items = rw (drop-append-seam x l) at (first-items o (x ++ l) c (length x) f)
+
+  -- so, counted from the start of the ending, they are just those
   pub ending-alone : map (givenBy (since (length x))) (onward o (x ++ l) c) ≡ items o l
-  ending-alone = ap (map (givenBy (since (length x)))) (rw (drop-append-seam x l) at (first-items o (x ++ l) c (length x) f)) ∙ given-back (length x) (items o l)
+  ending-alone = ap (map (givenBy (since (length x)))) ending-items ∙ given-back (length x) (items o l)
 
   -- so is each step: the answer, the state shown, the cursor that it leaves
   pub steps-alone : (k : ℕ) → stepCounted (since (length x)) (stepOf o (x ++ l) (later k o (x ++ l) (length x) c)) ≡ stepOf o l (after k o l newCursor)
