@@ -13,15 +13,21 @@ use Rattle.frame.specs.declared.At.the-variants.{Complete}
 use Rattle.frame.proofs.Theorems.{Clean, search-stopped}
 use Rattle.copy.specs.Samples.{shortAt, patternAt}
 use Rattle.reader.specs.Items.{Given, items}
-use Rattle.reader.specs.Step.{newCursor}
+use Rattle.reader.specs.Step.{newCursor, stepOf}
+use Rattle.reader.specs.Took.{Took}
 use Rattle.reader.specs.declared.Cursor.{Cursor}
 use Rattle.reader.proofs.Laws.{unfit}
 use Rattle.reader.proofs.Theorems.{reads}
-use Rattle.ending.specs.Ending.{since, givenBy, AcceptsFirstAt, lead, fromChunk}
+use Rattle.ending.specs.Ending.{since, onto, givenBy, stepCounted, AcceptsFirstAt, lead, after, fromChunk}
 use Rattle.ending.proofs.Calls.{NewCall, new-met, StepCall, ShortsCall, shortsOf, shorts-met, PatternsCall, patternsOf, patterns-met}
 use Rattle.ending.proofs.Copied.{SameCopies}
-use Rattle.ending.proofs.Theorems.{given, ending-alone, alone-first, same-steps, same-samples, clean-beginning-first}
-use Rattle.ending.proofs.Runs.{came, Run, run-after, run-took, runItems, run-reads, SameAnswers, same-answers, CopyOn, same-copy}
+use Rattle.ending.proofs.Theorems.{given, as-alone, ending-alone, alone-first, same-samples, clean-beginning-first}
+use Rattle.ending.proofs.Runs.{came, Run, run-after, run-took, runItems, run-reads, SameAnswers, CopyOn, same-copy}
+
+-- each answer from the first accepted chunk on is the step of the ending alone, its place as far on as the beginning is long
+pub run-ending : (o : Order) (x l : List ℕ) (c : Cursor) → AcceptsFirstAt o (x ++ l) c (length x) → (m : ℕ) (calls : ℕ → StepCall) → Run m o (x ++ l) c calls →
+    (k : ℕ) → lead (length x) c + k < m → Took (calls (lead (length x) c + k) .result) (stepCounted (onto (length x)) (stepOf o l (after k o l newCursor)))
+run-ending o x l c f m calls r k i = rw (← as-alone o x l c f k .step) (run-took m o (x ++ l) c calls r (lead (length x) c + k) i)
 
 -- ---- two runs, in streams with one ending, in which the first chunk that each reader accepts begins the ending
 
@@ -31,11 +37,7 @@ module _ (o : Order) (x y l : List ℕ) (c d : Cursor)
   -- from there on their answers are the same, places counted from the start of the ending
   pub runs-agree : (k : ℕ) → lead (length x) c + k < m → lead (length y) d + k < n →
       SameAnswers (length x) (calls (lead (length x) c + k) .result) (length y) (others (lead (length y) d + k) .result)
-  runs-agree k i j =
-      same-answers (length x) (length y) _ _ _ _
-      (run-took m o (x ++ l) c calls r (lead (length x) c + k) i)
-      (run-took n o (y ++ l) d others q (lead (length y) d + k) j)
-      (same-steps o x y l c d f g k)
+  runs-agree k i j = record { step = stepOf o l (after k o l newCursor); one = run-ending o x l c f m calls r k i; other = run-ending o y l d g n others q k j }
 
   -- and so is what copying calls answer and leave, made at the runs' cursors, for one channel and with equal slices
   came-samples : (k : ℕ) → lead (length x) c + k ≤ m → lead (length y) d + k ≤ n →

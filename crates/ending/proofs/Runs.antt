@@ -16,7 +16,8 @@ use Rattle.reader.specs.declared.Stepped.{Stepped}
 use Rattle.reader.proofs.Theorems.{told, reading}
 use Rattle.samples.specs.Copy.{copiedSaid, layoutAt, countOf, samplesAt, filled}
 use Rattle.samples.proofs.Theorems.{copied-told}
-use Rattle.ending.specs.Ending.{since, answerBy, cursorBy, stepCounted, after}
+use Rattle.ending.specs.Ending.{since, onto, answerBy, cursorBy, stepCounted, after}
+use Rattle.ending.proofs.Moved.{step-back}
 use Rattle.ending.proofs.Accepted.{after-suc}
 use Rattle.ending.proofs.Calls.{StepCall, StepOn, step-met, Copying, Copies}
 use Rattle.ending.proofs.Copied.{SameCopies}
@@ -65,19 +66,29 @@ run-reads (suc n) o s c calls r =
     let t = took (suc n) o s c calls r 0 (omega arith) in
     rw (t .item, t .shown, run-reads n o s (calls 0 .result .cursor) (λ k. calls (suc k)) (run-on n o s c calls r), t .cursor)
 
--- ---- two answers that say the same, places counted from p in one and from q in the other
+-- ---- two answers that are one step, its places p further on in one and q further on in the other
 
 pub record SameAnswers (p : ℕ) (a : Stepped) (q : ℕ) (b : Stepped) : Type 0 where
+  pub step : Step
+  pub one : Took a (stepCounted (onto p) step)
+  pub other : Took b (stepCounted (onto q) step)
+
+-- so they say the same, places counted from p in one and from q in the other
+pub record SameCounted (p : ℕ) (a : Stepped) (q : ℕ) (b : Stepped) : Type 0 where
   pub item : answerBy (since p) (itemSaid (a .item)) ≡ answerBy (since q) (itemSaid (b .item))
   pub shown : a .shown ≡ b .shown
   pub cursor : cursorBy (since p) (a .cursor) ≡ cursorBy (since q) (b .cursor)
 
-pub same-answers : (p q : ℕ) (a b : Stepped) (t u : Step) → Took a t → Took b u → stepCounted (since p) t ≡ stepCounted (since q) u → SameAnswers p a q b
-same-answers p q a b t u ta tb e = record {
-  item = rw (ta .item, tb .item) (ap (λ (v : Step). v .item) e);
-  shown = rw (ta .shown, tb .shown) (ap (λ (v : Step). v .shown) e);
-  cursor = rw (ta .cursor, tb .cursor) (ap (λ (v : Step). v .cursor) e);
-}
+pub same-counted : {p q : ℕ} {a b : Stepped} → SameAnswers p a q b → SameCounted p a q b
+same-counted {p} {q} e =
+    let t = e .one in
+    let u = e .other in
+    let w : stepCounted (since p) (stepCounted (onto p) (e .step)) ≡ stepCounted (since q) (stepCounted (onto q) (e .step)) = step-back p (e .step) ∙ sym (step-back q (e .step)) in
+    record {
+      item = rw (t .item, u .item) (ap (λ (v : Step). v .item) w);
+      shown = t .shown ∙ sym (u .shown);
+      cursor = rw (t .cursor, u .cursor) (ap (λ (v : Step). v .cursor) w);
+    }
 
 -- ---- a copying call at c, for channel n, into a slice that holds xs
 
