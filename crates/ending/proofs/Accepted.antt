@@ -9,7 +9,6 @@ use lib.Dec.{eqb}
 use lib.ListN.{length, drop, length-drop}
 use lib.Seq.{drop-drop}
 use borrow.Author.Tests.{eqb-true, eqb-false}
-use Rattle.num.specs.Choice.{pick}
 use Rattle.num.specs.declared.Order.{Order}
 use Rattle.frame.specs.Place.{shows, gap}
 use Rattle.frame.specs.declared.At.the-variants.{Complete}
@@ -61,6 +60,10 @@ module _ (o : Order) (s : List ℕ) (c : Cursor) (p : ℕ) (f : AcceptsFirstAt o
   pub inside : p < length s
   inside = search-at o s (c .place) p (f .stopped) .1
 
+  -- a searching reader is not refused, whatever its state
+  pub searching-fit : unfit c ≡ false
+  searching-fit = rw (f .searching)
+
   -- at the first chunk, whatever the state
   pub first-step : stepOf o s (reached p c) ≡ stepCounted (onto p) (stepOf o (drop p s) newCursor)
   first-step =
@@ -87,18 +90,17 @@ module _ (o : Order) (s : List ℕ) (c : Cursor) (p : ℕ) (f : AcceptsFirstAt o
       let h = search-stopped o s (c .place) p (f .stopped) in
       let u : c .place < p = omega (arith, h .low, eqb-false (c .place) p n) in
       let g : gap o (drop (c .place) s) ≡ p - c .place = omega (arith, search-at o s (c .place) p (f .stopped) .0) in
-      let q : unfit c ≡ false = rw (f .searching) in
-      step-ahead o s c (omega (arith, inside)) q
+      step-ahead o s c (omega (arith, inside)) searching-fit
       ∙ step-skips o (drop (c .place) s) c (shows o (drop (c .place) s)) (h .before (c .place) (omega arith) u)
       ∙ rw g
 
   skipped-to : eqb (c .place) p ≡ false → c .place + (p - c .place) ≡ p
   skipped-to n = omega (arith, search-stopped o s (c .place) p (f .stopped) .low)
 
-  lead-by : (b : Bool) → eqb (c .place) p ≡ b → after (pick b 0 1) o s c ≡ reached p c
+  lead-by : (b : Bool) → eqb (c .place) p ≡ b → after (lead p c) o s c ≡ reached p c
   unfolding after
-  lead-by true h = stands-there h
-  lead-by false h = ap (λ (t : Step). t .cursor) (skips-there h) ∙ rw (skipped-to h)
+  lead-by true h = rw h (stands-there h)
+  lead-by false h = rw h (ap (λ (t : Step). t .cursor) (skips-there h) ∙ rw (skipped-to h))
 
   -- so many steps lead there
   pub leads : after (lead p c) o s c ≡ reached p c

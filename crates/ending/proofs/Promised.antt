@@ -16,9 +16,9 @@ use Rattle.reader.specs.Items.{Given, items}
 use Rattle.reader.specs.Step.{newCursor, stepOf}
 use Rattle.reader.specs.Took.{Took}
 use Rattle.reader.specs.declared.Cursor.{Cursor}
-use Rattle.reader.proofs.Laws.{unfit}
 use Rattle.reader.proofs.Theorems.{reads}
 use Rattle.ending.specs.Ending.{since, onto, givenBy, stepCounted, AcceptsFirstAt, lead, after, fromChunk}
+use Rattle.ending.proofs.Accepted.{searching-fit}
 use Rattle.ending.proofs.Calls.{NewCall, new-met, StepCall, ShortsCall, shortsOf, shorts-met, PatternsCall, patternsOf, patterns-met}
 use Rattle.ending.proofs.Copied.{SameCopies}
 use Rattle.ending.proofs.Theorems.{given, as-alone, ending-alone, alone-first, same-samples, clean-beginning-first}
@@ -80,7 +80,7 @@ module _ (o : Order) (x l : List ℕ) (c : Cursor) (f : AcceptsFirstAt o (x ++ l
   pub run-items : length (x ++ l) < m → Run m o (x ++ l) c calls → map (givenBy (since (length x))) (fromChunk (runItems m calls)) ≡ items o l
   run-items h r =
       let s = x ++ l in
-      let u : unfit c ≡ false = rw (f .searching) in
+      let u = searching-fit o s c (length x) f in
       let w = search-stopped o s (c .place) (length x) (f .stopped) in
       let q : c .place ≤ length s = omega (arith, w .low, w .high) in
       let e : runItems m calls ≡ given o s c = run-reads m o s c calls r ∙ reads m o s c u q (omega arith) ∙ sym (reads (suc (length s)) o s c u q (omega arith)) in
