@@ -1,4 +1,5 @@
 // The reader: a cursor that steps through a stream held in one lent slice.
+ghost use mathlib.Core.Bool.{true};
 ghost use mathlib.Core.Path.{_≡_};
 ghost use Prim.Native.Nat.{_+_, _-_, _^_, _<_, _≤_};
 ghost use lib.ListN.{length, take, drop};
@@ -7,6 +8,7 @@ ghost use Rattle.effect.specs.Effect.{effect};
 ghost use Rattle.effect.specs.Ready.{noState};
 ghost use Rattle.frame.specs.Frames.{width, first};
 ghost use Rattle.frame.specs.Place.{gap};
+ghost use Rattle.state.specs.State.{withMark};
 ghost use Rattle.reader.specs.Items.{items};
 ghost use Rattle.reader.specs.Took.{Took};
 ghost use Rattle.reader.specs.Step.{cursorAt, newCursor, before, accepted, lost, accepts, cuts, skips, stepOf};
@@ -70,15 +72,19 @@ impl Cursor {
     pub fn accept(self, to: usize) -> Self
         ensures { λ r. ⌜ r ≡ accepted self to ⌝ }
     {
-        let mut next = self;
-        next.place = to;
+        let kept = self.state;
         if self.in_step {
-            return next;
+            return Cursor {
+                place: to,
+                in_step: true,
+                state: kept,
+            };
         }
+        let none = State::empty(false);
         Cursor {
             place: to,
             in_step: true,
-            state: State::empty(true),
+            state: marked(none),
         }
     }
 
@@ -115,6 +121,14 @@ impl Cursor {
             At::NoSync | At::Bad => skip(order, s, self),
         }
     }
+}
+
+// The state, with the start mark set.
+fn marked(mut state: State) -> State
+    ensures { λ r. ⌜ r ≡ withMark state true ⌝ }
+{
+    state.mark = true;
+    state
 }
 
 // An answer that shows nothing and leaves the cursor as it came.
