@@ -1,0 +1,112 @@
+-- A checker's verdict and the value that it reads are one answer.
+use mathlib.Core.Path.{sym, _∙_}
+use Rattle.claims.proofs.Promise.{OneAnswer}
+use Rattle.claims.proofs.Told.{number-told, band-told, level-told, data-told, text-told, checked-told, read-checked, read-value}
+use Rattle.body.proofs.data.gfnc.Reads as gfnc
+use Rattle.body.proofs.data.gsnc.Reads as gsnc
+use Rattle.body.proofs.data.sfnc.Reads as sfnc
+use Rattle.body.proofs.data.sfnr.Reads as sfnr
+use Rattle.body.proofs.data.ssnc.Reads as ssnc
+use Rattle.body.proofs.data.ssnr.Reads as ssnr
+use Rattle.body.proofs.fault.number_of.Reads as number_of
+use Rattle.body.proofs.group.gcf.Reads as gcf
+use Rattle.body.proofs.group.giqp.Reads as giqp
+use Rattle.body.proofs.group.grg.Reads as grg
+use Rattle.body.proofs.group.no_gains.Reads as no_gains
+use Rattle.body.proofs.group.no_hertz.Reads as no_hertz
+use Rattle.body.proofs.group.no_packing.Reads as no_packing
+use Rattle.body.proofs.kind.kind_of.Reads as kind_of
+use Rattle.body.proofs.level.dbfs.Reads as dbfs
+use Rattle.body.proofs.level.dbtg.Reads as dbtg
+use Rattle.body.proofs.level.ffs.Reads as ffs
+use Rattle.body.proofs.number.bw.Reads as bw
+use Rattle.body.proofs.number.bwof.Reads as bwof
+use Rattle.body.proofs.number.cf.Reads as cf
+use Rattle.body.proofs.number.siqp.Reads as siqp
+use Rattle.body.proofs.number.sofh.Reads as sofh
+use Rattle.body.proofs.number.sr.Reads as sr
+use Rattle.body.proofs.plain.empty.Reads as empty
+use Rattle.body.proofs.plain.text.Reads as text
+use Rattle.body.proofs.verdict.check.Reads as check
+
+pub number-of-one-answer : OneAnswer number_of.Post
+number-of-one-answer κs a r r′ s s′ p q = p ∙ sym q
+
+pub kind-of-one-answer : OneAnswer kind_of.Post
+kind-of-one-answer κs a r r′ s s′ p q = p ∙ sym q
+
+pub no-packing-one-answer : OneAnswer no_packing.Post
+no-packing-one-answer κs a r r′ s s′ p q = p ∙ sym q
+
+pub no-hertz-one-answer : OneAnswer no_hertz.Post
+no-hertz-one-answer κs a r r′ s s′ p q = p ∙ sym q
+
+pub no-gains-one-answer : OneAnswer no_gains.Post
+no-gains-one-answer κs a r r′ s s′ p q = p ∙ sym q
+
+-- an answer that means what a rule says
+
+pub siqp-one-answer : OneAnswer siqp.Post
+siqp-one-answer κs a r r′ s s′ p q = number-told r r′ (p ∙ sym q)
+
+pub sofh-one-answer : OneAnswer sofh.Post
+sofh-one-answer κs a r r′ s s′ p q = number-told r r′ (p ∙ sym q)
+
+pub sr-one-answer : OneAnswer sr.Post
+sr-one-answer κs a r r′ s s′ p q = number-told r r′ (p ∙ sym q)
+
+pub bw-one-answer : OneAnswer bw.Post
+bw-one-answer κs a r r′ s s′ p q = number-told r r′ (p ∙ sym q)
+
+pub cf-one-answer : OneAnswer cf.Post
+cf-one-answer κs a r r′ s s′ p q = number-told r r′ (p ∙ sym q)
+
+pub bwof-one-answer : OneAnswer bwof.Post
+bwof-one-answer κs a r r′ s s′ p q = band-told r r′ (p ∙ sym q)
+
+pub dbfs-one-answer : OneAnswer dbfs.Post
+dbfs-one-answer κs a r r′ s s′ p q = level-told r r′ (p ∙ sym q)
+
+pub dbtg-one-answer : OneAnswer dbtg.Post
+dbtg-one-answer κs a r r′ s s′ p q = level-told r r′ (p ∙ sym q)
+
+pub ffs-one-answer : OneAnswer ffs.Post
+ffs-one-answer κs a r r′ s s′ p q = level-told r r′ (p ∙ sym q)
+
+pub ssnc-one-answer : OneAnswer ssnc.Post
+ssnc-one-answer κs a r r′ s s′ p q = data-told r r′ (p ∙ sym q)
+
+pub ssnr-one-answer : OneAnswer ssnr.Post
+ssnr-one-answer κs a r r′ s s′ p q = data-told r r′ (p ∙ sym q)
+
+pub sfnc-one-answer : OneAnswer sfnc.Post
+sfnc-one-answer κs a r r′ s s′ p q = data-told r r′ (p ∙ sym q)
+
+pub sfnr-one-answer : OneAnswer sfnr.Post
+sfnr-one-answer κs a r r′ s s′ p q = data-told r r′ (p ∙ sym q)
+
+pub gsnc-one-answer : OneAnswer gsnc.Post
+gsnc-one-answer κs a r r′ s s′ p q = data-told r r′ (p ∙ sym q)
+
+pub gfnc-one-answer : OneAnswer gfnc.Post
+gfnc-one-answer κs a r r′ s s′ p q = data-told r r′ (p ∙ sym q)
+
+pub text-one-answer : OneAnswer text.Post
+text-one-answer κs a r r′ s s′ p q = text-told r r′ (p ∙ sym q)
+
+pub empty-one-answer : OneAnswer empty.Post
+empty-one-answer κs a r r′ s s′ p q = checked-told r r′ tt tt (p ∙ sym q)
+
+pub check-one-answer : OneAnswer check.Post
+check-one-answer κs a r r′ s s′ p q = checked-told r r′ tt tt (p ∙ sym q)
+
+-- an answer with its value beside it
+
+pub giqp-one-answer : OneAnswer giqp.Post
+giqp-one-answer κs a r r′ s s′ p q = λ i. record { checked = read-checked p q i; packing = read-value p q i }
+
+pub gcf-one-answer : OneAnswer gcf.Post
+gcf-one-answer κs a r r′ s s′ p q = λ i. record { checked = read-checked p q i; hertz = read-value p q i }
+
+pub grg-one-answer : OneAnswer grg.Post
+grg-one-answer κs a r r′ s s′ p q = λ i. record { checked = read-checked p q i; gains = read-value p q i }

@@ -1,0 +1,13 @@
+pub mod Promise
+pub mod Told
+pub mod Num
+pub mod Frame
+pub mod Body
+pub mod State
+pub mod Reader
+pub mod Writer
+pub mod Typed
+pub mod Copy
+pub mod Samples
+pub mod Files
+pub mod Listing

@@ -1,0 +1,17 @@
+-- What it is that a promise leaves one answer. Post is a function's own promise, of its arguments, its answer and what
+-- stands in its parameters at the end.
+use mathlib.Core.Path.{_≡_, sym, _∙_}
+
+-- two answers to the same arguments are equal
+abbrev pub OneAnswer : {K : Type 0} {A R S : K → Type 0} → ((κs : K) → A κs → R κs → S κs → Type 0) → Type 0
+OneAnswer {K} {A} {R} {S} Post = (κs : K) (a : A κs) (r r′ : R κs) (s s′ : S κs) → Post κs a r s → Post κs a r′ s′ → r ≡ r′
+
+-- and so is what a lent slice holds at the end
+abbrev pub OneEnd : {K B : Type 0} {A R S : K → Type 0} → ((κs : K) → A κs → R κs → S κs → Type 0) → ((κs : K) → S κs → B) → Type 0
+OneEnd {K} {B} {A} {R} {S} Post out =
+    (κs : K) (a : A κs) (r r′ : R κs) (s s′ : S κs) → Post κs a r s → Post κs a r′ s′ → (r ≡ r′) × (out κs s ≡ out κs s′)
+
+-- an answer whose meaning a rule gives and tells apart, beside a slice that a rule fills
+pub by-meaning : {R B D : Type 0} {said : R → B} {m : B} {d d′ e : D} → ((x y : R) → said x ≡ said y → x ≡ y) → (r r′ : R) →
+    (said r ≡ m) × (d ≡ e) → (said r′ ≡ m) × (d′ ≡ e) → (r ≡ r′) × (d ≡ d′)
+by-meaning told r r′ p q = (told r r′ (p .0 ∙ sym (q .0)), p .1 ∙ sym (q .1))

@@ -1,0 +1,29 @@
+-- A cursor, a step with its item, and the number of items are each one answer.
+use mathlib.Core.Path.{sym, _∙_}
+use Rattle.reader.proofs.Cursor.accept.Reads as accept
+use Rattle.reader.proofs.Cursor.lose_step.Reads as lose_step
+use Rattle.reader.proofs.Cursor.new.Reads as new
+use Rattle.reader.proofs.Cursor.step.Reads as step
+use Rattle.reader.proofs.count.Reads as count
+use Rattle.claims.proofs.Promise.{OneAnswer}
+use Rattle.claims.proofs.Told.{item-told}
+
+pub new-one-answer : OneAnswer new.Post
+new-one-answer κs a r r′ s s′ p q = p ∙ sym q
+
+pub accept-one-answer : OneAnswer accept.Post
+accept-one-answer κs a r r′ s s′ p q = p ∙ sym q
+
+pub lose-step-one-answer : OneAnswer lose_step.Post
+lose-step-one-answer κs a r r′ s s′ p q = p ∙ sym q
+
+pub step-one-answer : OneAnswer step.Post
+step-one-answer κs a r r′ s s′ p q =
+    λ i. record {
+      item = item-told (r .item) (r′ .item) (p .item ∙ sym (q .item)) i;
+      shown = (p .shown ∙ sym (q .shown)) i;
+      cursor = (p .cursor ∙ sym (q .cursor)) i;
+    }
+
+pub count-one-answer : OneAnswer count.Post
+count-one-answer κs a r r′ s s′ p q = p ∙ sym q

@@ -1,0 +1,155 @@
+-- Where a promise says what the cases of an answer mean, two answers that mean the same are the same.
+use Prim.Native.Nat.{ℕ}
+use mathlib.Core.Path.{_≡_, refl, ap, sym, _∙_}
+use lib.Dec.{eqb}
+use Rattle.num.specs.Answer.{Answer, gives, refuses}
+use Rattle.num.specs.Choice.{pick}
+use Rattle.body.specs.Fault.{faultNumber, checkedSaid}
+use Rattle.body.specs.Groups.{Read}
+use Rattle.body.specs.Levels.{levelSaid}
+use Rattle.body.specs.Numbers.{numberSaid, bandSaid}
+use Rattle.body.specs.Plain.{textSaid}
+use Rattle.body.specs.Samples.{dataSaid}
+use Rattle.body.specs.declared.data.DataRead.{DataRead}
+use Rattle.body.specs.declared.data.DataRead.the-variants as D
+use Rattle.body.specs.declared.fault.Checked.{Checked}
+use Rattle.body.specs.declared.fault.Checked.the-variants as C
+use Rattle.body.specs.declared.fault.Fault.{Fault}
+use Rattle.body.specs.declared.fault.Fault.the-variants.{Size, Value, Count, Padding, Text}
+use Rattle.body.specs.declared.level.LevelRead.{LevelRead}
+use Rattle.body.specs.declared.level.LevelRead.the-variants as L
+use Rattle.body.specs.declared.number.BandRead.{BandRead}
+use Rattle.body.specs.declared.number.BandRead.the-variants as B
+use Rattle.body.specs.declared.number.Number.{Number}
+use Rattle.body.specs.declared.number.Number.the-variants as N
+use Rattle.body.specs.declared.plain.TextRead.{TextRead}
+use Rattle.body.specs.declared.plain.TextRead.the-variants as T
+use Rattle.effect.specs.Says.{Says, ok, unknown, bad, waits, ready, lackNumber, verdictSaid}
+use Rattle.effect.specs.declared.Lack.{Lack}
+use Rattle.effect.specs.declared.Lack.the-variants.{Packing, Rate, Scale}
+use Rattle.effect.specs.declared.Verdict.{Verdict}
+use Rattle.effect.specs.declared.Verdict.the-variants as Said
+use Rattle.reader.specs.Item.{Item, end, skipped, unfinished, chunk, itemSaid}
+use Rattle.reader.specs.declared.Item as declared
+use Rattle.reader.specs.declared.Item.the-variants.{PastEnd, BadState, End, Skipped, Unfinished, Chunk}
+
+-- what can be undone tells apart
+told : {A B : Type 0} (said : A → B) (unsaid : B → A) → ((a : A) → unsaid (said a) ≡ a) → (a b : A) → said a ≡ said b → a ≡ b
+told said unsaid back a b e = sym (back a) ∙ ap unsaid e ∙ back b
+
+-- ---- a value, or a fault
+
+faultOf : ℕ → Fault
+faultOf n = pick (eqb n 11) Size (pick (eqb n 12) Value (pick (eqb n 13) Count (pick (eqb n 14) Padding Text)))
+
+fault-back : (f : Fault) → faultOf (faultNumber f) ≡ f
+unfolding faultOf
+fault-back Size = refl
+fault-back Value = refl
+fault-back Count = refl
+fault-back Padding = refl
+fault-back Text = refl
+
+-- the case of an answer, by the case of a value and that of a fault
+abbrev caseOf : {A E : Type 0} → (A → E) → (Fault → E) → Answer A → E
+caseOf is wrong (gives a) = is a
+caseOf is wrong (refuses n) = wrong (faultOf n)
+
+number-back : (x : Number) → caseOf N.Is N.Malformed (numberSaid x) ≡ x
+number-back (N.Is v) = refl
+number-back (N.Malformed f) = ap N.Malformed (fault-back f)
+
+pub number-told : (x y : Number) → numberSaid x ≡ numberSaid y → x ≡ y
+number-told = told numberSaid (caseOf N.Is N.Malformed) number-back
+
+band-back : (x : BandRead) → caseOf B.Spans B.Faulty (bandSaid x) ≡ x
+band-back (B.Spans b) = refl
+band-back (B.Faulty f) = ap B.Faulty (fault-back f)
+
+pub band-told : (x y : BandRead) → bandSaid x ≡ bandSaid y → x ≡ y
+band-told = told bandSaid (caseOf B.Spans B.Faulty) band-back
+
+level-back : (x : LevelRead) → caseOf L.Is L.Malformed (levelSaid x) ≡ x
+level-back (L.Is l) = refl
+level-back (L.Malformed f) = ap L.Malformed (fault-back f)
+
+pub level-told : (x y : LevelRead) → levelSaid x ≡ levelSaid y → x ≡ y
+level-told = told levelSaid (caseOf L.Is L.Malformed) level-back
+
+data-back : (x : DataRead) → caseOf D.Is D.Malformed (dataSaid x) ≡ x
+data-back (D.Is d) = refl
+data-back (D.Malformed f) = ap D.Malformed (fault-back f)
+
+pub data-told : (x y : DataRead) → dataSaid x ≡ dataSaid y → x ≡ y
+data-told = told dataSaid (caseOf D.Is D.Malformed) data-back
+
+text-back : (x : TextRead) → caseOf T.Is T.Malformed (textSaid x) ≡ x
+text-back (T.Is n) = refl
+text-back (T.Malformed f) = ap T.Malformed (fault-back f)
+
+pub text-told : (x y : TextRead) → textSaid x ≡ textSaid y → x ≡ y
+text-told = told textSaid (caseOf T.Is T.Malformed) text-back
+
+-- a verdict, with some value beside it
+checked-back : {A : Type 0} (x : Checked) (v : A) → caseOf (λ (u : A). C.Good) C.Malformed (checkedSaid x v) ≡ x
+checked-back C.Good v = refl
+checked-back (C.Malformed f) v = ap C.Malformed (fault-back f)
+
+pub checked-told : {A : Type 0} (x y : Checked) (v w : A) → checkedSaid x v ≡ checkedSaid y w → x ≡ y
+checked-told {A} x y v w e = sym (checked-back x v) ∙ ap (caseOf (λ (u : A). C.Good) C.Malformed) e ∙ checked-back y w
+
+-- ---- what the reader says of a chunk, and the item of a step
+
+lackOf : ℕ → Lack
+lackOf n = pick (eqb n 21) Packing (pick (eqb n 22) Rate Scale)
+
+verdictOf : Says → Verdict
+verdictOf ok = Said.Good
+verdictOf unknown = Said.Unknown
+verdictOf (bad n) = pick (eqb n 16) Said.NotCovered (Said.Malformed (faultOf n))
+verdictOf (waits n t) = Said.Waits (lackOf n) t
+verdictOf (ready d) = Said.Ready d
+
+verdict-back : (v : Verdict) → verdictOf (verdictSaid v) ≡ v
+unfolding faultOf lackOf verdictOf
+verdict-back Said.Good = refl
+verdict-back Said.Unknown = refl
+verdict-back (Said.Malformed Size) = refl
+verdict-back (Said.Malformed Value) = refl
+verdict-back (Said.Malformed Count) = refl
+verdict-back (Said.Malformed Padding) = refl
+verdict-back (Said.Malformed Text) = refl
+verdict-back Said.NotCovered = refl
+verdict-back (Said.Waits Packing t) = refl
+verdict-back (Said.Waits Rate t) = refl
+verdict-back (Said.Waits Scale t) = refl
+verdict-back (Said.Ready d) = refl
+
+pub verdict-told : (x y : Verdict) → verdictSaid x ≡ verdictSaid y → x ≡ y
+verdict-told = told verdictSaid verdictOf verdict-back
+
+itemOf : Answer Item → declared.Item
+itemOf (refuses n) = pick (eqb n 2) PastEnd BadState
+itemOf (gives end) = End
+itemOf (gives (skipped place length)) = Skipped place length
+itemOf (gives (unfinished place length)) = Unfinished place length
+itemOf (gives (chunk place code size says)) = Chunk place code size (verdictOf says)
+
+item-back : (i : declared.Item) → itemOf (itemSaid i) ≡ i
+unfolding itemOf
+item-back PastEnd = refl
+item-back BadState = refl
+item-back End = refl
+item-back (Skipped place length) = refl
+item-back (Unfinished place length) = refl
+item-back (Chunk place code size v) = ap (Chunk place code size) (verdict-back v)
+
+pub item-told : (x y : declared.Item) → itemSaid x ≡ itemSaid y → x ≡ y
+item-told = told itemSaid itemOf item-back
+
+-- a verdict with its value beside it is one answer in both its parts
+pub read-checked : {A : Type 0} {x y : Checked} {v w none : A} {rule : Answer A} → Read x v none rule → Read y w none rule → x ≡ y
+read-checked {A} {x} {y} {v} {w} p q = checked-told x y v w (p .said ∙ sym (q .said))
+
+pub read-value : {A : Type 0} {x y : Checked} {v w none : A} {rule : Answer A} → Read x v none rule → Read y w none rule → v ≡ w
+read-value p q = p .holds ∙ sym (q .holds)

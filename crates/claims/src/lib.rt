@@ -1,0 +1,1 @@
+// Theorems of the functions' own promises; there is no code here.
