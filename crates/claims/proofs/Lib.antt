@@ -11,3 +11,4 @@ pub mod Copy
 pub mod Samples
 pub mod Files
 pub mod Listing
+pub mod Marked

@@ -24,7 +24,7 @@ use Rattle.body.specs.declared.number.Number.{Number}
 use Rattle.body.specs.declared.number.Number.the-variants as N
 use Rattle.body.specs.declared.plain.TextRead.{TextRead}
 use Rattle.body.specs.declared.plain.TextRead.the-variants as T
-use Rattle.effect.specs.Says.{Says, ok, unknown, bad, waits, ready, lackNumber, verdictSaid}
+use Rattle.effect.specs.Says.{Says, ok, unknown, bad, waits, ready, verdictSaid}
 use Rattle.effect.specs.declared.Lack.{Lack}
 use Rattle.effect.specs.declared.Lack.the-variants.{Packing, Rate, Scale}
 use Rattle.effect.specs.declared.Verdict.{Verdict}
