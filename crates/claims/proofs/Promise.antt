@@ -1,6 +1,8 @@
 -- What it is that a promise leaves one answer. Post is a function's own promise, of its arguments, its answer and what
 -- stands in its parameters at the end.
 use mathlib.Core.Path.{_≡_, sym, _∙_}
+use mathlib.Core.List.{List}
+use denote.Ref.{RefT}
 
 -- two answers to the same arguments are equal
 abbrev pub OneAnswer : {K : Type 0} {A R S : K → Type 0} → ((κs : K) → A κs → R κs → S κs → Type 0) → Type 0
@@ -15,3 +17,11 @@ OneEnd {K} {B} {A} {R} {S} Post out =
 pub by-meaning : {R B D : Type 0} {said : R → B} {m : B} {d d′ e : D} → ((x y : R) → said x ≡ said y → x ≡ y) → (r r′ : R) →
     (said r ≡ m) × (d ≡ e) → (said r′ ≡ m) × (d′ ≡ e) → (r ≡ r′) × (d ≡ d′)
 by-meaning told r r′ p q = (told r r′ (p .0 ∙ sym (q .0)), p .1 ∙ sym (q .1))
+
+-- a call with these arguments may end with this answer
+abbrev pub Allows : {K : Type 0} {A R S : K → Type 0} → ((κs : K) → A κs → R κs → S κs → Type 0) → (κs : K) → A κs → R κs → Type 0
+Allows {K} {A} {R} {S} Post κs a r = (s : S κs) × Post κs a r s
+
+-- a lent slice that holds these
+abbrev pub lent : {X : Type 0} → List X → RefT (List X)
+lent l = record { ptr = (0, 0); name = 0; now = l }

@@ -1,0 +1,13 @@
+-- What is said of a chunk, the state that it shows and the state that it leaves are one answer.
+use mathlib.Core.Path.{sym, _∙_}
+use Rattle.effect.proofs.take.take.Reads as take
+use Rattle.claims.proofs.Promise.{OneAnswer}
+use Rattle.claims.proofs.Told.{verdict-told}
+
+pub take-one-answer : OneAnswer take.Post
+take-one-answer κs a r r′ s s′ p q =
+    λ i. record {
+      verdict = verdict-told (r .verdict) (r′ .verdict) (p .says ∙ sym (q .says)) i;
+      shown = (p .shown ∙ sym (q .shown)) i;
+      state = (p .after ∙ sym (q .after)) i;
+    }

@@ -1,0 +1,183 @@
+-- Programs that do not do what is asked do not meet the promises: each gives, for some stream, an answer that none allows.
+use Prim.Native.Nat.{ℕ, _+_}
+use mathlib.Core.Path.{_≡_, ap, sym, _∙_}
+use mathlib.Core.Bool.{true, false}
+use mathlib.Core.List.{List, [], _∷_, _++_}
+use native.Mathlib.Omega.{arith}
+use contract.Lifetimes.{Lfts}
+use lib.Ieee.{ofBits}
+use lib.IntN.{pos, negsuc}
+use lib.ListN.{length, drop, replicate}
+use Rattle.num.specs.Answer.{gives}
+use Rattle.num.specs.declared.Order.the-variants.{Big}
+use Rattle.frame.specs.Frames.{chunkBytes, framesBy}
+use Rattle.frame.specs.Place.{starts, shows, gap, orderOf}
+use Rattle.frame.specs.declared.At.the-variants.{Complete}
+use Rattle.frame.specs.declared.OrderFound.{OrderFound}
+use Rattle.frame.specs.declared.OrderFound.the-variants.{Is}
+use Rattle.frame.proofs.Theorems.{order-told}
+use Rattle.frame.proofs.find_order.Reads as find_order
+use Rattle.body.specs.Kind.{known, kindIn, kindOf}
+use Rattle.body.specs.Verdict.{verdict}
+use Rattle.copy.specs.Samples.{pairsOf}
+use Rattle.state.specs.Good.{goodFrom, goodState}
+use Rattle.state.specs.State.{emptied, withPacking, withRate}
+use Rattle.effect.specs.Effect.{effect}
+use Rattle.effect.specs.Says.{Says, verdictSaid}
+use Rattle.effect.specs.declared.Verdict.{Verdict}
+use Rattle.effect.specs.declared.Verdict.the-variants.{Ready}
+use Rattle.reader.specs.Item.{chunk, itemSaid}
+use Rattle.reader.specs.Items.{items}
+use Rattle.reader.specs.Step.{cursorAt, newCursor, stepOf}
+use Rattle.reader.specs.declared.Cursor.{Cursor}
+use Rattle.reader.specs.declared.Item as declared
+use Rattle.reader.specs.declared.Item.the-variants.{PastEnd, BadState, End, Skipped, Unfinished, Chunk}
+use Rattle.reader.specs.declared.Stepped.{Stepped}
+use Rattle.reader.proofs.Cursor.step.Reads as step
+use Rattle.reader.proofs.count.Reads as count
+use Rattle.writer.specs.declared.Written.{Written}
+use Rattle.writer.specs.declared.Written.the-variants.{Next}
+use Rattle.writer.proofs.Theorems.{written-told}
+use Rattle.writer.proofs.write.Reads as write
+use Rattle.samples.specs.Copy.{layoutAt, countOf}
+use Rattle.samples.specs.Layout.{shapeOf}
+use Rattle.samples.specs.declared.Copied.{Copied}
+use Rattle.samples.specs.declared.Copied.the-variants.{Count}
+use Rattle.samples.proofs.AtCursor.{stands}
+use Rattle.samples.proofs.Theorems.{copied-told}
+use Rattle.samples.proofs.shorts.copy.Reads as shorts
+use Rattle.filecheck.specs.File.{fileFrom}
+use Rattle.filecheck.specs.declared.FileChecked.{FileChecked}
+use Rattle.filecheck.specs.declared.FileChecked.the-variants.{Good}
+use Rattle.filecheck.proofs.Theorems.{file-told}
+use Rattle.filecheck.proofs.check.Reads as check
+use Rattle.claims.proofs.Promise.{Allows, lent}
+use Rattle.claims.proofs.Told.{item-told}
+
+-- an IQDC chunk
+abbrev pub iqdc : List ℕ
+iqdc = chunkBytes Big 0x49514443 []
+
+-- a step in big order may give this answer
+abbrev pub Steps : Lfts 1 → Cursor → List ℕ → Stepped → Type 0
+Steps κs c s r = Allows step.Post κs (c, (Big, (lent s, tt))) r
+
+-- ---- one that skips or refuses everything
+
+-- a stretch that was skipped, or a refusal
+abbrev pub Idle : declared.Item → Type 0
+Idle PastEnd = Unit {0}
+Idle BadState = Unit {0}
+Idle End = ⊥
+Idle (Skipped place length) = Unit {0}
+Idle (Unfinished place length) = ⊥
+Idle (Chunk place code size v) = ⊥
+
+idle-said : (i : declared.Item) {p code size : ℕ} {says : Says} → Idle i → itemSaid i ≡ gives (chunk p code size says) → ⊥
+idle-said PastEnd h e = let z : _≡_ {A = ℕ} 0 1 = cc in absurd (omega arith)
+idle-said BadState h e = let z : _≡_ {A = ℕ} 0 1 = cc in absurd (omega arith)
+idle-said End h e = h
+idle-said (Skipped place length) h e = let z : _≡_ {A = ℕ} 0 1 = cc in absurd (omega arith)
+idle-said (Unfinished place length) h e = h
+idle-said (Chunk place code size v) h e = h
+
+pub no-skipping-reader : (κs : Lfts 1) (r : Stepped) → Idle (r .item) → Steps κs newCursor iqdc r → ⊥
+unfolding stepOf gap shows starts kindOf kindIn known effect
+no-skipping-reader κs r i h = idle-said (r .item) i (h .1 .item)
+
+-- nor is an order refused that can be found, a record that has room, or a good file
+pub no-refused-order : (κs : Lfts 1) (r : OrderFound) → Allows find_order.Post κs (lent iqdc, tt) r → r ≡ Is Big
+unfolding orderOf starts
+no-refused-order κs r h = order-told r (Is Big) (h .1)
+
+pub no-refused-record : (κs : Lfts 2) (r : Written) → Allows write.Post κs (Big, (0x49514443, (lent [], (lent (replicate 12 0), (0, tt))))) r → r ≡ Next 12
+unfolding kindOf kindIn known verdict
+no-refused-record κs r h = written-told r (Next 12) (h .1 .0)
+
+pub no-refused-file : (κs : Lfts 1) (r : FileChecked) → Allows check.Post κs (Big, (lent (chunkBytes Big 0x534F4648 (0 ∷ 0 ∷ 0 ∷ 1 ∷ []) ++ chunkBytes Big 0x454F4648 []), tt)) r → r ≡ Good 2
+unfolding fileFrom framesBy gap shows starts kindOf kindIn known verdict
+no-refused-file κs r h = file-told r (Good 2) (h .1)
+
+-- ---- one that gives the same item for all streams
+
+pub no-constant-item : (κs : Lfts 1) (r r′ : Stepped) → r .item ≡ r′ .item → Steps κs newCursor [] r → Steps κs newCursor iqdc r′ → ⊥
+unfolding stepOf gap shows starts kindOf kindIn known effect
+no-constant-item κs r r′ i h h′ =
+    let e = sym (h .1 .item) ∙ ap itemSaid i ∙ h′ .1 .item in
+    let z : _≡_ {A = ℕ} 0 1 = cc in
+    absurd (omega arith)
+
+-- ---- one that moves no cursor and copies no sample
+
+pub no-still-cursor : (κs : Lfts 1) (r : Stepped) → r .cursor ≡ newCursor → Steps κs newCursor iqdc r → ⊥
+unfolding stepOf gap shows starts kindOf kindIn known effect
+no-still-cursor κs r i h =
+    let e : _≡_ {A = ℕ} 0 12 = ap (λ (c : Cursor). c .place) (sym i ∙ h .1 .cursor) in
+    absurd (omega arith)
+
+-- an SSNC chunk with the time 5 and the pair 1, -1, and a cursor before it that knows packing and sample rate
+abbrev pub pair : List ℕ
+pair = chunkBytes Big 0x53534E43 (0 ∷ 0 ∷ 0 ∷ 0 ∷ 0 ∷ 0 ∷ 0 ∷ 5 ∷ 0 ∷ 1 ∷ 0xFF ∷ 0xFF ∷ [])
+
+abbrev pub knowing : Cursor
+knowing = cursorAt 0 true (withRate (withPacking (emptied false) (record { present = true; value = pos 1 })) (record { present = true; value = pos 1 }))
+
+-- a copy of channel 0 into a slice of two numbers may give this answer
+abbrev pub Copies : Lfts 2 → Copied → Type 0
+Copies κs r = Allows shorts.Post κs (Big, (lent pair, (knowing, (0, (lent (pos 0 ∷ pos 0 ∷ []), tt))))) r
+
+-- the count is 2, not 0 and no other, and the two numbers are copied
+pub no-other-count : (κs : Lfts 2) (r : Copied) → Copies κs r → r ≡ Count 2
+unfolding countOf layoutAt shapeOf stepOf goodState goodFrom ofBits shows starts kindOf kindIn known effect
+no-other-count κs r h = copied-told r (Count 2) (h .1 .0)
+
+pub no-other-samples : (κs : Lfts 2) (r : Copied) (h : Copies κs r) → h .0 .1 .1 .1 .1 .0 .now ≡ pos 1 ∷ negsuc 0 ∷ []
+unfolding countOf layoutAt pairsOf shapeOf stepOf goodState goodFrom ofBits shows starts kindOf kindIn known effect
+no-other-samples κs r h = h .1 .1
+
+-- ---- one that tracks the state for the first chunk and repeats it
+
+-- an SR__ chunk, and an SSNR chunk with two reals
+abbrev pub rate : ℕ → List ℕ
+rate n = chunkBytes Big 0x53525F5F (0 ∷ 0 ∷ 0 ∷ 0 ∷ 0 ∷ 0 ∷ 0 ∷ n ∷ [])
+
+abbrev pub reals : List ℕ
+reals = chunkBytes Big 0x53534E52 (0 ∷ 0 ∷ 0 ∷ 0 ∷ 0 ∷ 0 ∷ 0 ∷ 5 ∷ 0 ∷ 1 ∷ 0 ∷ 2 ∷ [])
+
+abbrev pub changing : List ℕ
+changing = rate 1 ++ (reals ++ (rate 2 ++ reals))
+
+-- the cursor that a step leaves
+abbrev next : Cursor → Cursor
+next c = stepOf Big changing c .cursor
+
+pub no-repeated-state : (κs : Lfts 1) (r₁ r₂ r₃ r₄ : Stepped) →
+    Steps κs newCursor changing r₁ → Steps κs (r₁ .cursor) changing r₂ → Steps κs (r₂ .cursor) changing r₃ → Steps κs (r₃ .cursor) changing r₄ →
+    r₂ .shown ≡ r₄ .shown → ⊥
+unfolding stepOf goodState goodFrom ofBits shows starts kindOf kindIn known effect
+no-repeated-state κs r₁ r₂ r₃ r₄ h₁ h₂ h₃ h₄ e =
+    let c₁ : r₁ .cursor ≡ next newCursor = h₁ .1 .cursor in
+    let c₂ : r₂ .cursor ≡ next (next newCursor) = h₂ .1 .cursor ∙ ap next c₁ in
+    let c₃ : r₃ .cursor ≡ next (next (next newCursor)) = h₃ .1 .cursor ∙ ap next c₂ in
+    let s₂ = h₂ .1 .shown ∙ ap (λ (c : Cursor). stepOf Big changing c .shown) c₁ in
+    let s₄ = h₄ .1 .shown ∙ ap (λ (c : Cursor). stepOf Big changing c .shown) c₃ in
+    let f : pos 1 ≡ pos 2 = ap (λ x. x .rate .value) (sym s₂ ∙ e ∙ s₄) in
+    let z : _≡_ {A = ℕ} 1 2 = cc in
+    absurd (omega arith)
+
+-- ---- an invented item or sample count
+
+-- a chunk that a step gives stands at the cursor, whatever the stream
+pub no-invented-chunk : (κs : Lfts 1) (a : _) (r : Stepped) (p code size : ℕ) (v : Verdict) → r .item ≡ Chunk p code size v → Allows step.Post κs a r →
+    shows (a .1 .0) (drop (a .0 .place) (a .1 .1 .0 .now)) ≡ Complete code size
+no-invented-chunk κs a r p code size v i h =
+    stands (a .1 .0) (a .0) p code size (verdictSaid v) (a .1 .1 .0 .now) (sym (h .1 .item) ∙ ap itemSaid i) .here
+
+-- no stream has one item more than it has
+pub no-extra-item : (κs : Lfts 1) (a : _) → Allows count.Post κs a (1 + length (items (a .0) (a .1 .0 .now))) → ⊥
+no-extra-item κs a h = absurd (omega (arith, h .1))
+
+-- the item of the pair above has its one sample
+pub no-invented-samples : (κs : Lfts 1) (r : Stepped) → Steps κs knowing pair r → r .item ≡ Chunk 0 0x53534E43 12 (Ready (record { time = pos 5; samples = 1 }))
+unfolding stepOf goodState goodFrom ofBits shows starts kindOf kindIn known effect
+no-invented-samples κs r h = item-told (r .item) (Chunk 0 0x53534E43 12 (Ready (record { time = pos 5; samples = 1 }))) (h .1 .item)
