@@ -10,7 +10,7 @@ use lib.IntN.{pos, negsuc}
 use lib.ListN.{length, drop, replicate}
 use Rattle.num.specs.Answer.{gives}
 use Rattle.num.specs.declared.Order.the-variants.{Big}
-use Rattle.frame.specs.Frames.{chunkBytes, framesBy}
+use Rattle.frame.specs.Frames.{framesBy}
 use Rattle.frame.specs.Place.{starts, shows, gap, orderOf}
 use Rattle.frame.specs.declared.At.the-variants.{Complete}
 use Rattle.frame.specs.declared.OrderFound.{OrderFound}
@@ -51,12 +51,9 @@ use Rattle.filecheck.specs.declared.FileChecked.{FileChecked}
 use Rattle.filecheck.specs.declared.FileChecked.the-variants.{Good}
 use Rattle.filecheck.proofs.Theorems.{file-told}
 use Rattle.filecheck.proofs.check.Reads as check
+use Rattle.claims.specs.Marked.{iqdc, whole}
 use Rattle.claims.proofs.Promise.{Allows, lent}
 use Rattle.claims.proofs.Told.{item-told}
-
--- an IQDC chunk
-abbrev pub iqdc : List ℕ
-iqdc = chunkBytes Big 0x49514443 []
 
 -- a step in big order may give this answer
 abbrev pub Steps : Lfts 1 → Cursor → List ℕ → Stepped → Type 0
@@ -94,7 +91,7 @@ pub no-refused-record : (κs : Lfts 2) (r : Written) → Allows write.Post κs (
 unfolding kindOf kindIn known verdict
 no-refused-record κs r h = written-told r (Next 12) (h .1 .0)
 
-pub no-refused-file : (κs : Lfts 1) (r : FileChecked) → Allows check.Post κs (Big, (lent (chunkBytes Big 0x534F4648 (0 ∷ 0 ∷ 0 ∷ 1 ∷ []) ++ chunkBytes Big 0x454F4648 []), tt)) r → r ≡ Good 2
+pub no-refused-file : (κs : Lfts 1) (r : FileChecked) → Allows check.Post κs (Big, (lent (whole 0x53 0x4F 0x46 0x48 (0 ∷ 0 ∷ 0 ∷ 1 ∷ []) ++ whole 0x45 0x4F 0x46 0x48 []), tt)) r → r ≡ Good 2
 unfolding fileFrom framesBy gap shows starts kindOf kindIn known verdict
 no-refused-file κs r h = file-told r (Good 2) (h .1)
 
@@ -117,7 +114,7 @@ no-still-cursor κs r i h =
 
 -- an SSNC chunk with the time 5 and the pair 1, -1, and a cursor before it that knows packing and sample rate
 abbrev pub pair : List ℕ
-pair = chunkBytes Big 0x53534E43 (0 ∷ 0 ∷ 0 ∷ 0 ∷ 0 ∷ 0 ∷ 0 ∷ 5 ∷ 0 ∷ 1 ∷ 0xFF ∷ 0xFF ∷ [])
+pair = whole 0x53 0x53 0x4E 0x43 (0 ∷ 0 ∷ 0 ∷ 0 ∷ 0 ∷ 0 ∷ 0 ∷ 5 ∷ 0 ∷ 1 ∷ 0xFF ∷ 0xFF ∷ [])
 
 abbrev pub knowing : Cursor
 knowing = cursorAt 0 true (withRate (withPacking (emptied false) (record { present = true; value = pos 1 })) (record { present = true; value = pos 1 }))
@@ -139,10 +136,10 @@ no-other-samples κs r h = h .1 .1
 
 -- an SR__ chunk, and an SSNR chunk with two reals
 abbrev pub rate : ℕ → List ℕ
-rate n = chunkBytes Big 0x53525F5F (0 ∷ 0 ∷ 0 ∷ 0 ∷ 0 ∷ 0 ∷ 0 ∷ n ∷ [])
+rate n = whole 0x53 0x52 0x5F 0x5F (0 ∷ 0 ∷ 0 ∷ 0 ∷ 0 ∷ 0 ∷ 0 ∷ n ∷ [])
 
 abbrev pub reals : List ℕ
-reals = chunkBytes Big 0x53534E52 (0 ∷ 0 ∷ 0 ∷ 0 ∷ 0 ∷ 0 ∷ 0 ∷ 5 ∷ 0 ∷ 1 ∷ 0 ∷ 2 ∷ [])
+reals = whole 0x53 0x53 0x4E 0x52 (0 ∷ 0 ∷ 0 ∷ 0 ∷ 0 ∷ 0 ∷ 0 ∷ 5 ∷ 0 ∷ 1 ∷ 0 ∷ 2 ∷ [])
 
 abbrev pub changing : List ℕ
 changing = rate 1 ++ (reals ++ (rate 2 ++ reals))

@@ -1,8 +1,7 @@
--- The twelve marked cases in one table, and the example of a listing: computing the rules gives what is written here.
+-- The marked cases and the example of a listing hold of the rules: computing them gives what the tables name.
 use Prim.Native.Nat.{ℕ}
 use mathlib.Core.Path.{_≡_, refl}
-use mathlib.Core.List.{List, [], _∷_, _++_, map}
-use lib.IntN.{pos}
+use mathlib.Core.List.{List, [], map}
 use lib.ListN.{length}
 use Rattle.num.specs.Answer.{gives}
 use Rattle.num.specs.declared.Order.the-variants.{Big}
@@ -15,93 +14,24 @@ use Rattle.body.specs.Lists.{each, upto}
 use Rattle.body.specs.Plain.{zeros, texts, text}
 use Rattle.cover.specs.Cover.{total, all, covers, groupCovers}
 use Rattle.effect.specs.Effect.{effect}
-use Rattle.effect.specs.Says.{Says, ok, bad, ready}
-use Rattle.reader.specs.Item.{Item, end, skipped, unfinished, chunk}
+use Rattle.reader.specs.Item.{Item, end}
 use Rattle.reader.specs.Items.{Given, itemsFrom, items}
 use Rattle.reader.specs.Step.{newCursor, stepOf}
 use Rattle.listing.specs.Digits.{decimal, decimalBy, hexDigits}
 use Rattle.listing.specs.Lines.{countLine, stretchLine, chunkLine, listing}
 use Rattle.listing.proofs.Theorems.{exampleText}
+use Rattle.claims.specs.Marked.{Stream, table, example}
 
 -- the items of a stream in big order
 abbrev pub read : List ℕ → List Item
 read s = map (λ (g : Given). g .item) (items Big s)
 
--- a stream, and its items
-pub record Stream : Type 0 where
-  pub bytes : List ℕ
-  pub holds : List Item
-
--- a header of type IQDC, up to its size
-iqdc : List ℕ
-iqdc = 0xA1 ∷ 0xB2 ∷ 0xC3 ∷ 0xD4 ∷ 0x49 ∷ 0x51 ∷ 0x44 ∷ 0x43 ∷ []
-
--- a chunk, by the letters of its type and its body
-whole : ℕ → ℕ → ℕ → ℕ → List ℕ → List ℕ
-whole a b c d body = 0xA1 ∷ 0xB2 ∷ 0xC3 ∷ 0xD4 ∷ a ∷ b ∷ c ∷ d ∷ 0 ∷ 0 ∷ 0 ∷ length body ∷ body
-
--- a text of one letter, with its last byte of padding
-letter : ℕ → List ℕ
-letter last = whole 0x54 0x45 0x58 0x54 (0 ∷ 0 ∷ 0 ∷ 1 ∷ 0x41 ∷ 0 ∷ 0 ∷ last ∷ [])
-
--- four pairs of two channels with increment 1, by the second offset, the first being 0: GIQP, SR__, GSNC
-four : ℕ → List ℕ
-four second =
-    whole 0x47 0x49 0x51 0x50 (0 ∷ 0 ∷ 0 ∷ 2 ∷ 0 ∷ 0 ∷ 0 ∷ 1 ∷ 0 ∷ 0 ∷ 0 ∷ 1 ∷ 0 ∷ 0 ∷ 0 ∷ 0 ∷ 0 ∷ 0 ∷ 0 ∷ second ∷ [])
-    ++ (whole 0x53 0x52 0x5F 0x5F (0 ∷ 0 ∷ 0 ∷ 0 ∷ 0 ∷ 0 ∷ 0 ∷ 1 ∷ [])
-    ++ whole 0x47 0x53 0x4E 0x43 (0 ∷ 0 ∷ 0 ∷ 0 ∷ 0 ∷ 0 ∷ 0 ∷ 5 ∷ 0 ∷ 0 ∷ 0 ∷ 1 ∷ 0 ∷ 2 ∷ 0 ∷ 3 ∷ 0 ∷ 4 ∷ 0 ∷ 5 ∷ 0 ∷ 6 ∷ 0 ∷ 7 ∷ []))
-
--- and their items, by what is said of the last
-grouped : Says → List Item
-grouped says = chunk 0 0x47495150 20 ok ∷ chunk 32 0x53525F5F 8 ok ∷ chunk 52 0x47534E43 24 says ∷ []
-
--- a row for each case, with one stream or two
-pub table : List (List Stream)
-table =
-    -- 1: empty
-    (record { bytes = []; holds = [] } ∷ [])
-    -- 2: three bytes of a sync word
-    ∷ (record { bytes = 0xA1 ∷ 0xB2 ∷ 0xC3 ∷ []; holds = skipped 0 3 ∷ [] } ∷ [])
-    -- 3: an IQDC chunk
-    ∷ (record { bytes = whole 0x49 0x51 0x44 0x43 []; holds = chunk 0 0x49514443 0 ok ∷ [] } ∷ [])
-    -- 4: its first 8 bytes
-    ∷ (record { bytes = iqdc; holds = unfinished 0 8 ∷ [] } ∷ [])
-    -- 5: a size of 69,632 and no body
-    ∷ (record { bytes = iqdc ++ 0 ∷ 1 ∷ 0x10 ∷ 0 ∷ []; holds = unfinished 0 12 ∷ [] } ∷ [])
-    -- 6: a size of 69,636
-    ∷ (record { bytes = iqdc ++ 0 ∷ 1 ∷ 0x10 ∷ 4 ∷ []; holds = skipped 0 12 ∷ [] } ∷ [])
-    -- 7: a size of 6
-    ∷ (record { bytes = iqdc ++ 0 ∷ 0 ∷ 0 ∷ 6 ∷ []; holds = skipped 0 12 ∷ [] } ∷ [])
-    -- 8: half a sync word, then an IQDC chunk
-    ∷ (record { bytes = 0xA1 ∷ 0xB2 ∷ whole 0x49 0x51 0x44 0x43 []; holds = skipped 0 2 ∷ chunk 2 0x49514443 0 ok ∷ [] } ∷ [])
-    -- 9: a sync word, then an IQDC chunk
-    ∷ (record { bytes = 0xA1 ∷ 0xB2 ∷ 0xC3 ∷ 0xD4 ∷ whole 0x49 0x51 0x44 0x43 []; holds = skipped 0 4 ∷ chunk 4 0x49514443 0 ok ∷ [] } ∷ [])
-    -- 10: SIQP with 2
-    ∷ (record { bytes = whole 0x53 0x49 0x51 0x50 (0 ∷ 0 ∷ 0 ∷ 2 ∷ []); holds = chunk 0 0x53495150 4 (bad 12) ∷ [] } ∷ [])
-    -- 11: a text of one letter, well padded, and with a padding of 1
-    ∷ (record { bytes = letter 0; holds = chunk 0 0x54455854 8 ok ∷ [] }
-    ∷ record { bytes = letter 1; holds = chunk 0 0x54455854 8 (bad 14) ∷ [] } ∷ [])
-    -- 12: offsets 0 and 2, and offsets 0 and 1
-    ∷ (record { bytes = four 2; holds = grouped (ready (record { time = pos 5; samples = 4 })) }
-    ∷ record { bytes = four 1; holds = grouped (bad 16) } ∷ [])
-    ∷ []
-
 -- there are twelve, each stream has the items that its row names, and where nothing is ahead, as in the first, a step gives End
 pub marked-cases : (length table ≡ 12) × (map (map (λ (s : Stream). read (s .bytes))) table ≡ map (map (λ (s : Stream). s .holds)) table) × (stepOf Big [] newCursor .item ≡ gives end)
-unfolding stepOf table iqdc whole letter four grouped itemsFrom framesBy gap shows starts kindOf kindIn known effect text texts zeros runBy firstFit fits listed packed offsetAt each upto groupCovers covers total all
+unfolding stepOf table itemsFrom framesBy gap shows starts kindOf kindIn known effect text texts zeros runBy firstFit fits listed packed offsetAt each upto groupCovers covers total all
 marked-cases = (refl, refl, refl)
 
--- the example of the listing: 00 A1 B2; CF__ with 1000; IQDC; type 41424344; SSNC with time 5 and the pair 1, -1; 00 00
-pub example : List ℕ
-example =
-    (0 ∷ 0xA1 ∷ 0xB2 ∷ [])
-    ++ (whole 0x43 0x46 0x5F 0x5F (0 ∷ 0 ∷ 0 ∷ 0 ∷ 0 ∷ 0 ∷ 3 ∷ 0xE8 ∷ [])
-    ++ (whole 0x49 0x51 0x44 0x43 []
-    ++ (whole 0x41 0x42 0x43 0x44 []
-    ++ (whole 0x53 0x53 0x4E 0x43 (0 ∷ 0 ∷ 0 ∷ 0 ∷ 0 ∷ 0 ∷ 0 ∷ 5 ∷ 0 ∷ 1 ∷ 0xFF ∷ 0xFF ∷ [])
-    ++ (0 ∷ 0 ∷ [])))))
-
--- its order is found, it has 73 bytes, and its listing is the text
+-- the order of the example is found, it has 73 bytes, and its listing is the text
 pub listing-example : (orderOf example ≡ gives Big) × (length example ≡ 73) × (listing Big (length example) (read example) ≡ exampleText)
-unfolding example whole orderOf itemsFrom framesBy gap shows starts kindOf kindIn known effect countLine stretchLine chunkLine decimal decimalBy hexDigits
+unfolding example orderOf itemsFrom framesBy gap shows starts kindOf kindIn known effect countLine stretchLine chunkLine decimal decimalBy hexDigits
 listing-example = (refl, refl, refl)

@@ -1,0 +1,79 @@
+-- The twelve marked cases: streams in big order, and what is said of them through their items. And the example of a listing.
+use Prim.Native.Nat.{ℕ}
+use mathlib.Core.List.{List, [], _∷_, _++_}
+use lib.IntN.{pos}
+use lib.ListN.{length}
+use Rattle.effect.specs.Says.{Says, ok, bad, ready}
+use Rattle.reader.specs.Item.{Item, skipped, unfinished, chunk}
+
+-- a stream, and its items
+pub record Stream : Type 0 where
+  pub bytes : List ℕ
+  pub holds : List Item
+
+-- a header of type IQDC, up to its size
+abbrev pub header : List ℕ
+header = 0xA1 ∷ 0xB2 ∷ 0xC3 ∷ 0xD4 ∷ 0x49 ∷ 0x51 ∷ 0x44 ∷ 0x43 ∷ []
+
+-- a chunk, by the letters of its type and its body
+abbrev pub whole : ℕ → ℕ → ℕ → ℕ → List ℕ → List ℕ
+whole a b c d body = 0xA1 ∷ 0xB2 ∷ 0xC3 ∷ 0xD4 ∷ a ∷ b ∷ c ∷ d ∷ 0 ∷ 0 ∷ 0 ∷ length body ∷ body
+
+abbrev pub iqdc : List ℕ
+iqdc = whole 0x49 0x51 0x44 0x43 []
+
+-- a text of one letter, with its last byte of padding
+abbrev pub letter : ℕ → List ℕ
+letter last = whole 0x54 0x45 0x58 0x54 (0 ∷ 0 ∷ 0 ∷ 1 ∷ 0x41 ∷ 0 ∷ 0 ∷ last ∷ [])
+
+-- four pairs of two channels with increment 1, by the second offset, the first being 0: GIQP, SR__, GSNC
+abbrev pub four : ℕ → List ℕ
+four second =
+    whole 0x47 0x49 0x51 0x50 (0 ∷ 0 ∷ 0 ∷ 2 ∷ 0 ∷ 0 ∷ 0 ∷ 1 ∷ 0 ∷ 0 ∷ 0 ∷ 1 ∷ 0 ∷ 0 ∷ 0 ∷ 0 ∷ 0 ∷ 0 ∷ 0 ∷ second ∷ [])
+    ++ (whole 0x53 0x52 0x5F 0x5F (0 ∷ 0 ∷ 0 ∷ 0 ∷ 0 ∷ 0 ∷ 0 ∷ 1 ∷ [])
+    ++ whole 0x47 0x53 0x4E 0x43 (0 ∷ 0 ∷ 0 ∷ 0 ∷ 0 ∷ 0 ∷ 0 ∷ 5 ∷ 0 ∷ 0 ∷ 0 ∷ 1 ∷ 0 ∷ 2 ∷ 0 ∷ 3 ∷ 0 ∷ 4 ∷ 0 ∷ 5 ∷ 0 ∷ 6 ∷ 0 ∷ 7 ∷ []))
+
+-- and their items, by what is said of the last
+abbrev pub grouped : Says → List Item
+grouped says = chunk 0 0x47495150 20 ok ∷ chunk 32 0x53525F5F 8 ok ∷ chunk 52 0x47534E43 24 says ∷ []
+
+-- a row for each case, with one stream or two
+unfoldable pub table : List (List Stream)
+table =
+    -- 1: empty
+    (record { bytes = []; holds = [] } ∷ [])
+    -- 2: three bytes of a sync word
+    ∷ (record { bytes = 0xA1 ∷ 0xB2 ∷ 0xC3 ∷ []; holds = skipped 0 3 ∷ [] } ∷ [])
+    -- 3: an IQDC chunk
+    ∷ (record { bytes = iqdc; holds = chunk 0 0x49514443 0 ok ∷ [] } ∷ [])
+    -- 4: its first 8 bytes
+    ∷ (record { bytes = header; holds = unfinished 0 8 ∷ [] } ∷ [])
+    -- 5: a size of 69,632 and no body
+    ∷ (record { bytes = header ++ 0 ∷ 1 ∷ 0x10 ∷ 0 ∷ []; holds = unfinished 0 12 ∷ [] } ∷ [])
+    -- 6: a size of 69,636
+    ∷ (record { bytes = header ++ 0 ∷ 1 ∷ 0x10 ∷ 4 ∷ []; holds = skipped 0 12 ∷ [] } ∷ [])
+    -- 7: a size of 6
+    ∷ (record { bytes = header ++ 0 ∷ 0 ∷ 0 ∷ 6 ∷ []; holds = skipped 0 12 ∷ [] } ∷ [])
+    -- 8: half a sync word, then an IQDC chunk
+    ∷ (record { bytes = 0xA1 ∷ 0xB2 ∷ iqdc; holds = skipped 0 2 ∷ chunk 2 0x49514443 0 ok ∷ [] } ∷ [])
+    -- 9: a sync word, then an IQDC chunk
+    ∷ (record { bytes = 0xA1 ∷ 0xB2 ∷ 0xC3 ∷ 0xD4 ∷ iqdc; holds = skipped 0 4 ∷ chunk 4 0x49514443 0 ok ∷ [] } ∷ [])
+    -- 10: SIQP with 2
+    ∷ (record { bytes = whole 0x53 0x49 0x51 0x50 (0 ∷ 0 ∷ 0 ∷ 2 ∷ []); holds = chunk 0 0x53495150 4 (bad 12) ∷ [] } ∷ [])
+    -- 11: a text of one letter, well padded, and with a padding of 1
+    ∷ (record { bytes = letter 0; holds = chunk 0 0x54455854 8 ok ∷ [] }
+    ∷ record { bytes = letter 1; holds = chunk 0 0x54455854 8 (bad 14) ∷ [] } ∷ [])
+    -- 12: offsets 0 and 2, and offsets 0 and 1
+    ∷ (record { bytes = four 2; holds = grouped (ready (record { time = pos 5; samples = 4 })) }
+    ∷ record { bytes = four 1; holds = grouped (bad 16) } ∷ [])
+    ∷ []
+
+-- the example of the listing: 00 A1 B2; CF__ with 1000; IQDC; type 41424344; SSNC with time 5 and the pair 1, -1; 00 00
+unfoldable pub example : List ℕ
+example =
+    (0 ∷ 0xA1 ∷ 0xB2 ∷ [])
+    ++ (whole 0x43 0x46 0x5F 0x5F (0 ∷ 0 ∷ 0 ∷ 0 ∷ 0 ∷ 0 ∷ 3 ∷ 0xE8 ∷ [])
+    ++ (iqdc
+    ++ (whole 0x41 0x42 0x43 0x44 []
+    ++ (whole 0x53 0x53 0x4E 0x43 (0 ∷ 0 ∷ 0 ∷ 0 ∷ 0 ∷ 0 ∷ 0 ∷ 5 ∷ 0 ∷ 1 ∷ 0xFF ∷ 0xFF ∷ [])
+    ++ (0 ∷ 0 ∷ [])))))
