@@ -1,11 +1,11 @@
 -- Programs that do not do what is asked do not meet the promises: each gives, for some stream, an answer that none allows.
-use Prim.Native.Nat.{ℕ, _+_}
+use Prim.Native.Nat.{ℕ, _+_, _<_}
 use mathlib.Core.Path.{_≡_, ap, sym, _∙_}
 use mathlib.Core.Bool.{true, false}
 use mathlib.Core.List.{List, [], _∷_, _++_}
 use native.Mathlib.Omega.{arith}
 use contract.Lifetimes.{Lfts}
-use lib.Ieee.{ofBits}
+use lib.Ieee.{binary32, ofBits, lt}
 use lib.IntN.{pos, negsuc}
 use lib.ListN.{length, drop, replicate}
 use Rattle.num.specs.Answer.{gives}
@@ -19,21 +19,22 @@ use Rattle.frame.proofs.Theorems.{order-told}
 use Rattle.frame.proofs.find_order.Reads as find_order
 use Rattle.body.specs.Kind.{known, kindIn, kindOf}
 use Rattle.body.specs.Verdict.{verdict}
-use Rattle.copy.specs.Samples.{pairsOf}
+use Rattle.copy.specs.Samples.{pairsOf, realsOf}
 use Rattle.state.specs.Good.{goodFrom, goodState}
-use Rattle.state.specs.State.{emptied, withPacking, withRate}
+use Rattle.state.specs.State.{emptied, withPacking, withRate, withFloatScale}
 use Rattle.effect.specs.Effect.{effect}
 use Rattle.effect.specs.Says.{Says, verdictSaid}
 use Rattle.effect.specs.declared.Verdict.{Verdict}
 use Rattle.effect.specs.declared.Verdict.the-variants.{Ready}
 use Rattle.reader.specs.Item.{chunk, itemSaid}
 use Rattle.reader.specs.Items.{items}
-use Rattle.reader.specs.Step.{cursorAt, newCursor, stepOf}
+use Rattle.reader.specs.Step.{Step, cursorAt, newCursor, stepBy, stepOf}
 use Rattle.reader.specs.declared.Cursor.{Cursor}
 use Rattle.reader.specs.declared.Item as declared
 use Rattle.reader.specs.declared.Item.the-variants.{PastEnd, BadState, End, Skipped, Unfinished, Chunk}
 use Rattle.reader.specs.declared.Stepped.{Stepped}
 use Rattle.reader.proofs.Cursor.step.Reads as step
+use Rattle.reader.proofs.Laws.{unfit, step-ahead}
 use Rattle.reader.proofs.count.Reads as count
 use Rattle.writer.specs.declared.Written.{Written}
 use Rattle.writer.specs.declared.Written.the-variants.{Next}
@@ -45,6 +46,7 @@ use Rattle.samples.specs.declared.Copied.{Copied}
 use Rattle.samples.specs.declared.Copied.the-variants.{Count}
 use Rattle.samples.proofs.AtCursor.{stands}
 use Rattle.samples.proofs.Theorems.{copied-told}
+use Rattle.samples.proofs.patterns.copy.Reads as patterns
 use Rattle.samples.proofs.shorts.copy.Reads as shorts
 use Rattle.filecheck.specs.File.{fileFrom}
 use Rattle.filecheck.specs.declared.FileChecked.{FileChecked}
@@ -81,6 +83,14 @@ idle-said (Chunk place code size v) h e = h
 pub no-skipping-reader : (κs : Lfts 1) (r : Stepped) → Idle (r .item) → Steps κs newCursor iqdc r → ⊥
 unfolding stepOf gap shows starts kindOf kindIn known effect
 no-skipping-reader κs r i h = idle-said (r .item) i (h .1 .item)
+
+-- and so at every complete chunk, whatever the stream, where number 3 is not due
+pub no-lost-chunk : (κs : Lfts 1) (a : _) (r : Stepped) (code size : ℕ) → Allows step.Post κs a r → a .0 .place < length (a .1 .1 .0 .now) → unfit (a .0) ≡ false →
+    shows (a .1 .0) (drop (a .0 .place) (a .1 .1 .0 .now)) ≡ Complete code size → Idle (r .item) → ⊥
+no-lost-chunk κs a r code size h l f e i =
+    let ahead : List ℕ = drop (a .0 .place) (a .1 .1 .0 .now) in
+    let t = step-ahead (a .1 .0) (a .1 .1 .0 .now) (a .0) l f ∙ ap (stepBy (a .1 .0) ahead (a .0)) e in
+    idle-said (r .item) i (h .1 .item ∙ ap (λ (x : Step). x .item) t)
 
 -- nor is an order refused that can be found, a record that has room, or a good file
 pub no-refused-order : (κs : Lfts 1) (r : OrderFound) → Allows find_order.Post κs (lent iqdc, tt) r → r ≡ Is Big
@@ -131,6 +141,18 @@ no-other-count κs r h = copied-told r (Count 2) (h .1 .0)
 pub no-other-samples : (κs : Lfts 2) (r : Copied) (h : Copies κs r) → h .0 .1 .1 .1 .1 .0 .now ≡ pos 1 ∷ negsuc 0 ∷ []
 unfolding countOf layoutAt pairsOf shapeOf stepOf goodState goodFrom ofBits shows starts kindOf kindIn known effect
 no-other-samples κs r h = h .1 .1
+
+-- an SFNR chunk with the time 5 and one pattern, which is a NaN, and a cursor that knows sample rate and float full scale
+abbrev pub float : List ℕ
+float = whole 0x53 0x46 0x4E 0x52 (0 ∷ 0 ∷ 0 ∷ 0 ∷ 0 ∷ 0 ∷ 0 ∷ 5 ∷ 0x7F ∷ 0xC0 ∷ 0 ∷ 1 ∷ [])
+
+abbrev pub scaled : Cursor
+scaled = cursorAt 0 true (withFloatScale (withRate (emptied false) (record { present = true; value = pos 1 })) (record { present = true; value = ofBits binary32 0x3F800000 }))
+
+pub no-lost-pattern : (κs : Lfts 2) (r : Copied) (h : Allows patterns.Post κs (Big, (lent float, (scaled, (0, (lent (0 ∷ []), tt))))) r) →
+    (r ≡ Count 1) × (h .0 .1 .1 .1 .1 .0 .now ≡ 0x7FC00001 ∷ [])
+unfolding countOf layoutAt realsOf shapeOf stepOf goodState goodFrom ofBits lt shows starts kindOf kindIn known effect
+no-lost-pattern κs r h = (copied-told r (Count 1) (h .1 .0), h .1 .1)
 
 -- ---- one that tracks the state for the first chunk and repeats it
 
