@@ -4,4 +4,3 @@ pub mod Lists
 pub mod Groups
 pub mod Texts
 pub mod Allowed
-pub mod Marked

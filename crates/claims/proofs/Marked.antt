@@ -19,8 +19,7 @@ use Rattle.reader.specs.Items.{Given, itemsFrom, items}
 use Rattle.reader.specs.Step.{newCursor, stepOf}
 use Rattle.listing.specs.Digits.{decimal, decimalBy, hexDigits}
 use Rattle.listing.specs.Lines.{countLine, stretchLine, chunkLine, listing}
-use Rattle.listing.proofs.Theorems.{exampleText}
-use Rattle.claims.specs.Marked.{Stream, table, example}
+use Rattle.claims.specs.Marked.{Stream, table, example, exampleText}
 
 -- the items of a stream in big order
 abbrev pub read : List ℕ → List Item

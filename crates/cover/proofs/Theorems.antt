@@ -1,14 +1,13 @@
--- The rule, said of channels and samples, and two groups that are worked out.
+-- The rule, said of channels and samples.
 use Prim.Native.Nat.{ℕ, _/_, _%_, _≤_, _<_}
-use mathlib.Core.Path.{_≡_, refl, sym, _∙_}
-use mathlib.Core.Bool.{true, false}
-use mathlib.Core.List.{List, [], _∷_}
+use mathlib.Core.Path.{_≡_}
+use mathlib.Core.Bool.{true}
+use mathlib.Core.List.{List}
 use mathlib.Core.Logic.{_⊎_}
 use lib.ListN.{getD}
-use Rattle.cover.specs.Cover.{total, all, covers, packs, groupCovers}
+use Rattle.cover.specs.Cover.{covers, packs, groupCovers}
 use Rattle.cover.proofs.Counts.{both-left, both-right, both-hold}
 use Rattle.cover.proofs.Laws.{Covered, covers-covered, covered-covers, packed, packs-of}
-use Rattle.cover.proofs.covers.Reads as reads
 
 -- n divides P, and with P / n samples to a channel every sample stands below P, and every pair below P is that of some
 -- sample and of only one.
@@ -47,23 +46,3 @@ unfolding groupCovers
 says-group P n inc offsets g =
     let f : ℕ → ℕ = λ c. getD offsets c 0 in
     both-hold (packs n inc) (covers n inc f P) (packs-of n inc (g .some) (g .few) (g .step)) (says-test n inc P f (g .cover))
-
--- the promise leaves one answer
-pub one-answer : (κs : _) (a : _) (r r′ : _) (s : _) → reads.Post κs a r s → reads.Post κs a r′ s → r ≡ r′
-one-answer κs a r r′ s p q = p ∙ sym q
-
--- ---- four pairs, two channels in blocks
-
--- the offsets of two channels, in a list of sixteen places
-abbrev pub two : ℕ → ℕ → List ℕ
-two a b = a ∷ b ∷ 0 ∷ 0 ∷ 0 ∷ 0 ∷ 0 ∷ 0 ∷ 0 ∷ 0 ∷ 0 ∷ 0 ∷ 0 ∷ 0 ∷ 0 ∷ 0 ∷ []
-
--- the second block starts where the first ends
-pub apart : groupCovers 4 2 1 (two 0 2) ≡ true
-unfolding groupCovers covers total all
-apart = refl
-
--- the blocks share a pair
-pub shared : groupCovers 4 2 1 (two 0 1) ≡ false
-unfolding groupCovers covers total all
-shared = refl

@@ -19,7 +19,6 @@ use Rattle.reader.proofs.Theorems.{items-length}
 use Rattle.filecheck.specs.File.{FileAnswer, good, refused, fileSaid, partOf, wellFormed, begins, passes, onward, fileFrom, fileBy, fileOf}
 use Rattle.filecheck.specs.declared.FileChecked.{FileChecked}
 use Rattle.filecheck.specs.declared.FileChecked.the-variants.{Good, NoHeader, HeaderNotEnded, SecondHeader, NotAChunk}
-use Rattle.filecheck.proofs.check.Reads as reads
 
 -- ---- the answer's cases say different things, so the promise fixes the case
 
@@ -42,10 +41,6 @@ case-back (NotAChunk place) = refl
 
 pub file-told : (a b : FileChecked) → fileSaid a ≡ fileSaid b → a ≡ b
 file-told a b e = sym (case-back a) ∙ ap caseOf e ∙ case-back b
-
--- the promise of `check` leaves one answer
-pub one-answer : (κs : _) (a : _) (r r′ : _) (s : _) → reads.Post κs a r s → reads.Post κs a r′ s → r ≡ r′
-one-answer κs a r r′ s p q = file-told r r′ (p ∙ sym q)
 
 -- ---- the number of a good file is that of its items
 

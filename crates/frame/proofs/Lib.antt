@@ -1,4 +1,3 @@
 pub mod Laws
 pub mod Frames
 pub mod Theorems
-pub mod Marked

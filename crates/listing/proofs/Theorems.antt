@@ -1,50 +1,19 @@
--- What the definitions say: the example of a listing, and decimal digits that read back.
+-- What the definitions say: two lines of a dump, and decimal digits that read back.
 use Prim.Native.Nat.{ℕ, zero, suc, _+_, _-_, _*_, _/_, _%_, _<_}
-use mathlib.Core.Path.{_≡_, refl, ap}
+use mathlib.Core.Path.{_≡_, refl}
 use mathlib.Core.Bool.{Bool, true, false}
-use mathlib.Core.List.{List, [], _∷_, _++_, map}
+use mathlib.Core.List.{List, [], _∷_, _++_}
 use native.Mathlib.Omega.{arith}
 use lib.Dec.{ltb}
 use lib.IntN.{negsuc}
 use lib.ListN.{length, getD, length-append, List·getD-append}
 use borrow.Author.Tests.{ltb-true, ltb-false}
-use Rattle.num.specs.declared.Order.the-variants.{Big}
-use Rattle.body.specs.Kind.{known, kindIn, kindOf}
-use Rattle.reader.specs.Items.{Given, items}
-use Rattle.reader.proofs.Listed.{example, listed}
 use Rattle.listing.specs.Digits.{digit, decimalBy, decimal, hexDigits}
 use Rattle.listing.specs.Words.{integerWord, hexWord, dumpLine}
-use Rattle.listing.specs.Lines.{countLine, stretchLine, chunkLine, listing}
 use Rattle.listing.specs.declared.Label.the-variants.{Time, GroupGains}
 use Rattle.listing.proofs.Numbers.{decimal-one, decimal-more}
 
--- ---- the example
-
--- the text of the example
-abbrev pub exampleText : List ℕ
-exampleText =
-    -- pxgf big 73
-    0x70 ∷ 0x78 ∷ 0x67 ∷ 0x66 ∷ 0x20 ∷ 0x62 ∷ 0x69 ∷ 0x67 ∷ 0x20 ∷ 0x37 ∷ 0x33 ∷ 0x0A ∷
-    -- skip 0 3
-    0x73 ∷ 0x6B ∷ 0x69 ∷ 0x70 ∷ 0x20 ∷ 0x30 ∷ 0x20 ∷ 0x33 ∷ 0x0A ∷
-    -- chunk 3 CF__ 8 ok
-    0x63 ∷ 0x68 ∷ 0x75 ∷ 0x6E ∷ 0x6B ∷ 0x20 ∷ 0x33 ∷ 0x20 ∷ 0x43 ∷ 0x46 ∷ 0x5F ∷ 0x5F ∷ 0x20 ∷ 0x38 ∷ 0x20 ∷ 0x6F ∷ 0x6B ∷ 0x0A ∷
-    -- chunk 23 IQDC 0 ok
-    0x63 ∷ 0x68 ∷ 0x75 ∷ 0x6E ∷ 0x6B ∷ 0x20 ∷ 0x32 ∷ 0x33 ∷ 0x20 ∷ 0x49 ∷ 0x51 ∷ 0x44 ∷ 0x43 ∷ 0x20 ∷ 0x30 ∷ 0x20 ∷ 0x6F ∷ 0x6B ∷ 0x0A ∷
-    -- chunk 35 41424344 0 unknown
-    0x63 ∷ 0x68 ∷ 0x75 ∷ 0x6E ∷ 0x6B ∷ 0x20 ∷ 0x33 ∷ 0x35 ∷ 0x20 ∷ 0x34 ∷ 0x31 ∷ 0x34 ∷ 0x32 ∷ 0x34 ∷ 0x33 ∷ 0x34 ∷ 0x34 ∷ 0x20 ∷ 0x30 ∷ 0x20 ∷ 0x75 ∷ 0x6E ∷ 0x6B ∷ 0x6E ∷ 0x6F ∷ 0x77 ∷ 0x6E ∷ 0x0A ∷
-    -- chunk 47 SSNC 12 wait 21
-    0x63 ∷ 0x68 ∷ 0x75 ∷ 0x6E ∷ 0x6B ∷ 0x20 ∷ 0x34 ∷ 0x37 ∷ 0x20 ∷ 0x53 ∷ 0x53 ∷ 0x4E ∷ 0x43 ∷ 0x20 ∷ 0x31 ∷ 0x32 ∷ 0x20 ∷ 0x77 ∷ 0x61 ∷ 0x69 ∷ 0x74 ∷ 0x20 ∷ 0x32 ∷ 0x31 ∷ 0x0A ∷
-    -- skip 71 2
-    0x73 ∷ 0x6B ∷ 0x69 ∷ 0x70 ∷ 0x20 ∷ 0x37 ∷ 0x31 ∷ 0x20 ∷ 0x32 ∷ 0x0A ∷
-    -- end 6
-    0x65 ∷ 0x6E ∷ 0x64 ∷ 0x20 ∷ 0x36 ∷ 0x0A ∷
-    []
-
--- the listing of the example's 73 bytes
-pub example-listing : listing Big 73 (map (λ (g : Given). g .item) (items Big example)) ≡ exampleText
-unfolding countLine stretchLine chunkLine decimal decimalBy hexDigits kindOf kindIn known
-example-listing = ap (listing Big 73) listed
+-- ---- the dump
 
 -- two lines of a dump: the time -5, and two gains as patterns
 pub example-dump : dumpLine Time (integerWord (negsuc 4)) ++ dumpLine GroupGains (hexWord 0x3F800000 ++ hexWord 0xC0A00000) ≡

@@ -11,7 +11,7 @@ ghost use Rattle.frame.specs.Place.{gap};
 ghost use Rattle.state.specs.State.{withMark};
 ghost use Rattle.reader.specs.Items.{items};
 ghost use Rattle.reader.specs.Took.{Took};
-ghost use Rattle.reader.specs.Step.{cursorAt, newCursor, before, accepted, lost, accepts, cuts, skips, stepOf};
+ghost use Rattle.reader.specs.Step.{newCursor, before, accepted, lost, accepts, cuts, skips, stepOf};
 use effect::Verdict;
 use frame::At;
 use frame::Found;
