@@ -10,7 +10,7 @@ use num::Order;
 use writer::Written;
 
 // The pattern of a number; a NaN has one, which no level allows.
-fn pattern(x: f32) -> u32
+pub(crate) fn pattern(x: f32) -> u32
     ensures { λ r. ⌜ r ≡ toBits binary32 x ⌝ }
 {
     if x == x { f32::to_bits(x) } else { 0x7FC0_0000 }

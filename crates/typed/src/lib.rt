@@ -1,5 +1,7 @@
 // A record of a kind, written from its values: the raw call on the bytes that they make.
 pub mod band;
 pub mod empty;
+pub mod group;
+mod lay;
 pub mod level;
 pub mod number;

@@ -1,0 +1,36 @@
+-- The bytes that a group's values make.
+use Prim.Native.Nat.{ℕ}
+use mathlib.Core.List.{List, _++_, map, flatten}
+use lib.Dec.{ltb}
+use lib.ListN.{take}
+use Rattle.num.specs.Choice.{pick}
+use Rattle.num.specs.Number.{bytesOf}
+use Rattle.num.specs.declared.Order.{Order}
+use Rattle.body.specs.declared.group.GroupPacking.{GroupPacking}
+use Rattle.body.specs.declared.group.GroupHertz.{GroupHertz}
+use Rattle.body.specs.declared.group.GroupGains.{GroupGains}
+use Rattle.typed.specs.Bodies.{int64, float32}
+
+-- the bytes of each of the first n values, one after the other
+abbrev pub laid : {A : Type 0} → (A → List ℕ) → ℕ → List A → List ℕ
+laid bytes n xs = flatten (map bytes (take n xs))
+
+-- n, or the limit where n is above it
+abbrev pub atMost : ℕ → ℕ → ℕ
+atMost limit n = pick (ltb limit n) limit n
+
+-- The count first. One above 16 has no place for its values: it stands as 17, which the row refuses, and the sixteen values follow.
+abbrev pub counted : Order → ℕ → List ℕ → List ℕ
+counted o n rest = bytesOf o 4 (atMost 17 n) ++ rest
+
+-- GIQP: the count, the packing, the increment, the offsets
+unfoldable pub packingBody : Order → GroupPacking → List ℕ
+packingBody o g = counted o (g .n) (bytesOf o 4 (pick (g .iq) 1 0) ++ (bytesOf o 4 (g .increment) ++ laid (bytesOf o 4) (g .n) (g .offsets)))
+
+-- GCF_: the count, the frequencies
+unfoldable pub hertzBody : Order → GroupHertz → List ℕ
+hertzBody o g = counted o (g .n) (laid (int64 o) (g .n) (g .values))
+
+-- GRG_: the count, the gains
+unfoldable pub gainsBody : Order → GroupGains → List ℕ
+gainsBody o g = counted o (g .n) (laid (float32 o) (g .n) (g .values))

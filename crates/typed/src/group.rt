@@ -1,0 +1,79 @@
+// The group kinds, each written from a count of channels and their values.
+ghost use mathlib.Core.Path.{_≡_};
+ghost use Prim.Native.Nat.{_≤_};
+ghost use lib.ListN.{length};
+ghost use Rattle.num.specs.Choice.{pick};
+ghost use Rattle.body.specs.Kind.{codeOf};
+ghost use Rattle.body.specs.declared.kind.Kind.the-variants as K;
+ghost use Rattle.writer.specs.Write.{writeOf, writtenOut, writtenSaid};
+ghost use Rattle.typed.specs.Groups.{atMost, packingBody, hertzBody, gainsBody};
+use crate::lay;
+use body::group::GroupGains;
+use body::group::GroupHertz;
+use body::group::GroupPacking;
+use num::Order;
+use writer::Written;
+
+// n, or the limit where n is above it.
+fn at_most(limit: usize, n: usize) -> usize
+    ensures { λ r. ⌜ (r ≡ atMost limit n) × (r ≤ limit) ⌝ }
+{
+    if limit < n { limit } else { n }
+}
+
+// 1 for I before Q, 0 for Q before I.
+fn packing_of(iq: bool) -> u32
+    ensures { λ r. ⌜ r ≡ pick iq 1 0 ⌝ }
+{
+    if iq { 1 } else { 0 }
+}
+
+// GIQP: how the pairs of group chunks are packed.
+pub fn giqp(order: Order, packing: GroupPacking, out: &mut [u8], place: usize) -> Written
+    ensures said { λ r. ⌜ writtenSaid r ≡ writeOf order (codeOf K.GIQP) (packingBody order packing) (length (now (out .entry))) place ⌝ }
+    ensures left { λ _. ⌜ now (out .exit) ≡ writtenOut order (codeOf K.GIQP) (packingBody order packing) (now (out .entry)) place ⌝ }
+{
+    let n = packing.n;
+    let offsets = packing.offsets;
+    let used = at_most(16, n);
+    let mut body = [0u8; 76];
+    lay::word(order, at_most(17, n) as u32, &mut body, 0);
+    lay::word(order, packing_of(packing.iq), &mut body, 4);
+    lay::word(order, packing.increment, &mut body, 8);
+    lay::words(order, offsets, used, &mut body, 12);
+    let all: &[u8] = &body;
+    let end = 12 + 4 * used;
+    writer::write(order, 0x4749_5150, &all[..end], out, place)
+}
+
+// GCF_: the centre frequency of each channel, in µHz.
+pub fn gcf(order: Order, hertz: GroupHertz, out: &mut [u8], place: usize) -> Written
+    ensures said { λ r. ⌜ writtenSaid r ≡ writeOf order (codeOf K.GCF) (hertzBody order hertz) (length (now (out .entry))) place ⌝ }
+    ensures left { λ _. ⌜ now (out .exit) ≡ writtenOut order (codeOf K.GCF) (hertzBody order hertz) (now (out .entry)) place ⌝ }
+{
+    let n = hertz.n;
+    let values = hertz.values;
+    let used = at_most(16, n);
+    let mut body = [0u8; 132];
+    lay::word(order, at_most(17, n) as u32, &mut body, 0);
+    lay::longs(order, values, used, &mut body, 4);
+    let all: &[u8] = &body;
+    let end = 4 + 8 * used;
+    writer::write(order, 0x4743_465F, &all[..end], out, place)
+}
+
+// GRG_: the gain of each channel, in dB.
+pub fn grg(order: Order, gains: GroupGains, out: &mut [u8], place: usize) -> Written
+    ensures said { λ r. ⌜ writtenSaid r ≡ writeOf order (codeOf K.GRG) (gainsBody order gains) (length (now (out .entry))) place ⌝ }
+    ensures left { λ _. ⌜ now (out .exit) ≡ writtenOut order (codeOf K.GRG) (gainsBody order gains) (now (out .entry)) place ⌝ }
+{
+    let n = gains.n;
+    let values = gains.values;
+    let used = at_most(16, n);
+    let mut body = [0u8; 68];
+    lay::word(order, at_most(17, n) as u32, &mut body, 0);
+    lay::floats(order, values, used, &mut body, 4);
+    let all: &[u8] = &body;
+    let end = 4 + 4 * used;
+    writer::write(order, 0x4752_475F, &all[..end], out, place)
+}
