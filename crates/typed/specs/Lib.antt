@@ -1,3 +1,4 @@
 pub mod Bodies
 pub mod Levels
 pub mod Groups
+pub mod Texts

@@ -1,0 +1,57 @@
+-- Laws of a text's bytes: how many they are, how they are laid, and that too many are refused.
+use Prim.Native.Nat.{ℕ, _+_, _-_, _*_, _/_, _≤_, _<_}
+use mathlib.Core.Path.{_≡_, refl, sym, ap, _∙_}
+use mathlib.Core.List.{List, _++_, append-assoc}
+use native.Mathlib.Omega.{arith}
+use borrow.Author.Tests.{lt-ltb, le-ltb, lt-leb}
+use lib.ListN.{length, take, drop, replicate, length-append, length-replicate, replicate-append-replicate}
+use lib.Seq.{take-at, drop-at, take-append-add}
+use Rattle.num.specs.Answer.{refuses}
+use Rattle.num.specs.Number.{bytesOf}
+use Rattle.num.specs.declared.Order.{Order}
+use Rattle.num.proofs.Laws.{bytes-length}
+use Rattle.body.specs.Plain.{padded}
+use Rattle.writer.specs.Write.{splice, writeOf, writtenOut}
+use Rattle.typed.specs.Texts.{textBody}
+use Rattle.typed.proofs.Laid.{after}
+
+abbrev zeros : ℕ → List ℕ
+zeros n = replicate n 0
+
+-- a part of a list of zeros
+zeros-part : (j m k : ℕ) → j + m ≤ k → take m (drop j (zeros k)) ≡ zeros m
+zeros-part j m k h =
+    let r = k - (j + m) in
+    let n : j + (m + r) ≡ k = omega arith in
+    let e : zeros k ≡ zeros j ++ (zeros m ++ zeros r) =
+    sym (ap (λ (l : List ℕ). zeros j ++ l) (replicate-append-replicate m r 0) ∙ replicate-append-replicate j (m + r) 0 ∙ ap zeros n) in
+    rw (e, drop-at (zeros j) (zeros m ++ zeros r) j (length-replicate j 0)) (take-at (zeros m) (zeros r) m (length-replicate m 0))
+
+module _ (o : Order) (t : List ℕ) where
+  pub text-size : length (textBody o t) ≡ 4 + padded (length t)
+  unfolding textBody
+  text-size = simp (length-append, bytes-length, length-replicate) (omega arith)
+
+  -- the length and the text, laid over zeros one after the other
+  pub text-laid : (k : ℕ) (d l m : List ℕ) → d ≡ replicate k 0 → 4 + padded (length t) ≤ k → l ≡ splice d 0 (bytesOf o 4 (length t)) → m ≡ splice l 4 t →
+      take (4 + padded (length t)) m ≡ textBody o t
+  unfolding textBody
+  text-laid k d l m z h e g =
+      let x = bytesOf o 4 (length t) in
+      let p = padded (length t) - length t in
+      let n : length (x ++ t) ≡ 4 + length t = simp (length-append, bytes-length) in
+      let q : length (x ++ t) + p ≡ 4 + padded (length t) = omega arith in
+      let y : length d ≡ k = ap length z ∙ length-replicate k 0 in
+      ap (take (4 + padded (length t))) (after d l m x t 4 (bytes-length o 4 (length t)) (omega arith) e g)
+      ∙ ap (λ (i : ℕ). take i ((x ++ t) ++ drop (0 + length (x ++ t)) d)) (sym q)
+      ∙ take-append-add (x ++ t) (drop (0 + length (x ++ t)) d) p
+      ∙ ap (λ (i : List ℕ). (x ++ t) ++ take p (drop (0 + length (x ++ t)) i)) z
+      ∙ ap (λ (i : List ℕ). (x ++ t) ++ i) (zeros-part (0 + length (x ++ t)) p k (omega arith))
+      ∙ append-assoc x t (replicate p 0)
+
+module _ (o : Order) (code : ℕ) (body d : List ℕ) (place : ℕ) where
+  pub past-end : length d < place → (refuses 2 ≡ writeOf o code body (length d) place) × (d ≡ writtenOut o code body d place)
+  past-end h = rw (lt-ltb (length d) place h) (refl, refl)
+
+  pub too-large : place ≤ length d → 69632 < length body → (refuses 32 ≡ writeOf o code body (length d) place) × (d ≡ writtenOut o code body d place)
+  too-large h k = rw (le-ltb (length d) place h, lt-leb (length body) 69632 k) (refl, refl)

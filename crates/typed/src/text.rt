@@ -1,0 +1,37 @@
+// TEXT, written from its bytes.
+ghost use mathlib.Core.Path.{_≡_};
+ghost use lib.ListN.{length, replicate};
+ghost use Rattle.body.specs.Kind.{codeOf};
+ghost use Rattle.body.specs.declared.kind.Kind.the-variants as K;
+ghost use Rattle.writer.specs.Write.{writeOf, writtenOut, writtenSaid};
+ghost use Rattle.typed.specs.Texts.{textBody};
+use crate::lay;
+use num::Order;
+use writer::Written;
+
+// Room for the largest body.
+fn room() -> [u8; 69632]
+    ensures { λ r. ⌜ r ≡ replicate 69632 0 ⌝ }
+{
+    [0u8; 69632]
+}
+
+// TEXT: a length, the bytes of the text, and zero bytes up to the next multiple of 4.
+pub fn text(order: Order, bytes: &[u8], out: &mut [u8], place: usize) -> Written
+    ensures said { λ r. ⌜ writtenSaid r ≡ writeOf order (codeOf K.TEXT) (textBody order (now (bytes .entry))) (length (now (out .entry))) place ⌝ }
+    ensures left { λ _. ⌜ now (out .exit) ≡ writtenOut order (codeOf K.TEXT) (textBody order (now (bytes .entry))) (now (out .entry)) place ⌝ }
+{
+    let n = bytes.len();
+    if out.len() < place {
+        return Written::PastEnd;
+    }
+    if 69628 < n {
+        return Written::BadSize;
+    }
+    let mut body = room();
+    lay::word(order, n as u32, &mut body, 0);
+    lay::put(bytes, &mut body, 4);
+    let all: &[u8] = &body;
+    let end = 4 + (n + 3) / 4 * 4;
+    writer::write(order, 0x5445_5854, &all[..end], out, place)
+}
