@@ -9,7 +9,7 @@ use native.Mathlib.Omega.{arith}
 use lib.Dec.{ltb}
 use lib.ListN.{length, take, drop, getD, length-append, take-append-drop}
 use lib.Seq.{take-all, take-at}
-use borrow.Author.Tests.{ltb-true, ltb-false}
+use borrow.Author.Tests.{ltb-true}
 use Rattle.num.specs.Choice.{pick}
 use Rattle.num.specs.Number.{bytesOf}
 use Rattle.num.specs.declared.Order.{Order}
@@ -30,13 +30,6 @@ three-laid o x y z d d₁ d₂ d₃ h e₁ e₂ e₃ =
     let n : length u ≡ 8 = simp (length-append, bytes-length) in
     after d d₂ d₃ u (bytesOf o 4 z) 8 n (omega arith) (after d d₁ d₂ (bytesOf o 4 x) (bytesOf o 4 y) 4 (bytes-length o 4 x) (omega arith) e₁ e₂) e₃
 
-limit-by : (limit n : ℕ) (b : Bool) → ltb limit n ≡ b → pick b limit n ≤ limit
-limit-by limit n true e = omega arith
-limit-by limit n false e = ltb-false limit n e
-
-at-most-limit : (limit n r : ℕ) → r ≡ atMost limit n → r ≤ limit
-at-most-limit limit n r e = rw e (limit-by limit n (ltb limit n) refl)
-
 -- a list of sixteen has no more than sixteen to take
 of-sixteen : {A : Type 0} (xs : List A) (n : ℕ) → length xs ≡ 16 → (b : Bool) → ltb 16 n ≡ b → take (pick b 16 n) xs ≡ take n xs
 of-sixteen xs n m true e = let h = ltb-true 16 n e in take-all 16 xs (omega arith) ∙ sym (take-all n xs (omega arith))
@@ -54,6 +47,16 @@ module _ {A : Type 0} (bytes : A → List ℕ) where
   laid-more c [] z h = absurd (omega arith)
   laid-more zero (x ∷ xs) z h = append-nil (bytes x)
   laid-more (suc c) (x ∷ xs) z h = rw (laid-more c xs z (omega arith)) (sym (append-assoc (bytes x) (laid bytes c xs) (bytes (getD xs c z))))
+
+  -- the value at a place, with what is laid before it and after it
+  pub laid-split : (n c : ℕ) (xs : List A) (z : A) → c < n → n ≤ length xs → (rest : List ℕ) × (laid bytes n xs ≡ laid bytes c xs ++ (bytes (getD xs c z) ++ rest))
+  unfolding flatten
+  laid-split zero c xs z h m = absurd (omega arith)
+  laid-split (suc n) c [] z h m = absurd (omega arith)
+  laid-split (suc n) zero (x ∷ xs) z h m = (laid bytes n xs, refl)
+  laid-split (suc n) (suc c) (x ∷ xs) z h m =
+      let r = laid-split n c xs z (omega arith) (omega arith) in
+      (r .0, ap (λ (l : List ℕ). bytes x ++ l) (r .1) ∙ sym (append-assoc (bytes x) (laid bytes c xs) (bytes (getD xs c z) ++ r .0)))
 
   module _ (w : ℕ) (wide : (x : A) → length (bytes x) ≡ w) where
     pub laid-length : (n : ℕ) (xs : List A) → n ≤ length xs → length (laid bytes n xs) ≡ w * n
@@ -73,10 +76,9 @@ module _ {A : Type 0} (bytes : A → List ℕ) where
         ∙ rw (add-one c, laid-more c xs z h)
 
     -- all that there are of sixteen values, after a head
-    pub group-laid : (xs : List A) (d l k head : List ℕ) (used n q : ℕ) → length xs ≡ 16 → used ≡ atMost 16 n → length head ≡ q → q + w * used ≤ length d →
+    pub group-laid : (xs : List A) (d l k head : List ℕ) (used n q : ℕ) → length xs ≡ 16 → used ≡ atMost 16 n → used ≤ 16 → length head ≡ q → q + w * used ≤ length d →
         l ≡ splice d 0 head → k ≡ splice l q (laid bytes used xs) → take (q + w * used) k ≡ head ++ laid bytes n xs
-    group-laid xs d l k head used n q m u h f e g =
-        let s : used ≤ 16 = at-most-limit 16 n used u in
+    group-laid xs d l k head used n q m u s h f e g =
         let p : length (head ++ laid bytes used xs) ≡ q + w * used = omega (arith, length-append head (laid bytes used xs), laid-length used xs (omega arith)) in
         ap (take (q + w * used)) (after d l k head (laid bytes used xs) q h (omega arith) e g)
         ∙ take-at (head ++ laid bytes used xs) (drop (0 + length (head ++ laid bytes used xs)) d) (q + w * used) p

@@ -1,3 +1,5 @@
 pub mod Floats
+pub mod Numbers
 pub mod Laid
 pub mod Texts
+pub mod Groups

@@ -1,19 +1,24 @@
 -- Laws of a text's bytes: how many they are, how they are laid, and that too many are refused.
-use Prim.Native.Nat.{ℕ, _+_, _-_, _*_, _/_, _≤_, _<_}
+use Prim.Native.Nat.{ℕ, zero, suc, _^_, _+_, _-_, _*_, _/_, _≤_, _<_}
 use mathlib.Core.Path.{_≡_, refl, sym, ap, _∙_}
-use mathlib.Core.List.{List, _++_, append-assoc}
+use mathlib.Core.Bool.{true}
+use mathlib.Core.List.{List, [], _++_, append-assoc}
 use native.Mathlib.Omega.{arith}
-use borrow.Author.Tests.{lt-ltb, le-ltb, lt-leb}
+use borrow.Author.Tests.{lt-ltb, le-ltb, lt-leb, eq-eqb}
 use lib.ListN.{length, take, drop, replicate, length-append, length-replicate, replicate-append-replicate}
 use lib.Seq.{take-at, drop-at, take-append-add}
-use Rattle.num.specs.Answer.{refuses}
+use Rattle.num.specs.Answer.{gives, refuses}
 use Rattle.num.specs.Number.{bytesOf}
 use Rattle.num.specs.declared.Order.{Order}
 use Rattle.num.proofs.Laws.{bytes-length}
-use Rattle.body.specs.Plain.{padded}
+use Rattle.text.specs.Utf8.{isUtf8}
+use Rattle.body.specs.Plain.{padded, texts, text}
+use Rattle.body.specs.Plain as plain
+use Rattle.body.proofs.Texts.{text-length}
 use Rattle.writer.specs.Write.{splice, writeOf, writtenOut}
 use Rattle.typed.specs.Texts.{textBody}
 use Rattle.typed.proofs.Laid.{after}
+use Rattle.typed.proofs.Numbers.{number-at}
 
 abbrev zeros : ℕ → List ℕ
 zeros n = replicate n 0
@@ -55,3 +60,24 @@ module _ (o : Order) (code : ℕ) (body d : List ℕ) (place : ℕ) where
 
   pub too-large : place ≤ length d → 69632 < length body → (refuses 32 ≡ writeOf o code body (length d) place) × (d ≡ writtenOut o code body d place)
   too-large h k = rw (le-ltb (length d) place h, lt-leb (length body) 69632 k) (refl, refl)
+
+-- ---- a text is read back
+
+zeros-zero : (n : ℕ) → plain.zeros (zeros n) ≡ true
+unfolding plain.zeros
+zeros-zero zero = refl
+zeros-zero (suc n) = zeros-zero n
+
+-- What a text makes is read back as the text's length, and it is well-formed where the text is UTF-8.
+pub text-back : (o : Order) (t : List ℕ) → length t < 2 ^ 31 → isUtf8 t ≡ true → text o (textBody o t) ≡ gives (length t)
+unfolding textBody texts
+text-back o t h u =
+    let n = length t in
+    let x = bytesOf o 4 n in
+    let y = zeros (padded n - n) in
+    let body = x ++ (t ++ y) in
+    let j : length (x ++ t) ≡ 4 + n = simp (length-append, bytes-length) in
+    let d : drop (4 + n) body ≡ y = ap (drop (4 + n)) (sym (append-assoc x t y)) ∙ drop-at (x ++ t) y (4 + n) j in
+    let e : take n (drop 4 body) ≡ t = ap (take n) (drop-at x (t ++ y) 4 (bytes-length o 4 n)) ∙ take-at t y n refl in
+    sym (text-length o body n (sym (number-at o 4 n [] (t ++ y) 0 refl (omega arith))) (omega (arith, text-size o t)) h)
+    ∙ rw (eq-eqb _ _ (text-size o t), d, zeros-zero (padded n - n), e, u)

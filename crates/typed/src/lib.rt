@@ -5,4 +5,4 @@ pub mod group;
 mod lay;
 pub mod level;
 pub mod number;
-pub mod text;
+pub mod plain;

@@ -67,7 +67,7 @@ returns c =
     let a = m .before .before .before .before .args in
     let n = a .hertz .n in
     let u = m .before .at-most in
-    let e = group-laid (int64 (a .order)) 8 (λ (x : ℤ). bytes-length (a .order) 8 (ofZ w64 x)) (a .hertz .values) (replicate 132 0) _ _ (bytesOf (a .order) 4 (atMost 17 n)) (u .result) n 4 (sixteen (m .before .before)) (u .ensures .0) (bytes-length (a .order) 4 (atMost 17 n)) (omega arith) (rw (m .at-most2 .ensures .0) at (w .word .ensures)) (l .longs .ensures) in
+    let e = group-laid (int64 (a .order)) 8 (λ (x : ℤ). bytes-length (a .order) 8 (ofZ w64 x)) (a .hertz .values) (replicate 132 0) _ _ (bytesOf (a .order) 4 (atMost 17 n)) (u .result) n 4 (sixteen (m .before .before)) (u .ensures .0) (u .ensures .1) (bytes-length (a .order) 4 (atMost 17 n)) (omega arith) (rw (m .at-most2 .ensures .0) at (w .word .ensures)) (l .longs .ensures) in
     rw e at (c .before .before .write .ensures)
 
 pub gcf-spec : {M : Type 1} → statement M

@@ -89,7 +89,7 @@ returns c =
     let z = bytesOf o 4 (g .increment) in
     let h = three-laid o (atMost 17 (g .n)) (pick (g .iq) 1 0) (g .increment) (replicate 76 0) _ _ _ (omega arith) (rw (m .at-most2 .ensures .0) at (t .word .ensures)) (rw (p .packing-of .ensures) at (v .word2 .ensures)) (w .word3 .ensures) in
     let n : length ((x ++ y) ++ z) ≡ 12 = simp (length-append, bytes-length) in
-    let e = group-laid (bytesOf o 4) 4 (bytes-length o 4) (g .offsets) (replicate 76 0) _ _ ((x ++ y) ++ z) (u .result) (g .n) 12 (sixteen (m .before .before)) (u .ensures .0) n (omega arith) h (l .words .ensures) in
+    let e = group-laid (bytesOf o 4) 4 (bytes-length o 4) (g .offsets) (replicate 76 0) _ _ ((x ++ y) ++ z) (u .result) (g .n) 12 (sixteen (m .before .before)) (u .ensures .0) (u .ensures .1) n (omega arith) h (l .words .ensures) in
     let k : ((x ++ y) ++ z) ++ laid (bytesOf o 4) (g .n) (g .offsets) ≡ x ++ (y ++ (z ++ laid (bytesOf o 4) (g .n) (g .offsets))) = simp append-assoc in
     rw (e ∙ k) at (c .before .before .write .ensures)
 

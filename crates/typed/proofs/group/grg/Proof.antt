@@ -65,7 +65,7 @@ returns c =
     let a = m .before .before .before .before .args in
     let n = a .gains .n in
     let u = m .before .at-most in
-    let e = group-laid (float32 (a .order)) 4 (λ (x : Float). bytes-length (a .order) 4 (toBits binary32 x)) (a .gains .values) (replicate 68 0) _ _ (bytesOf (a .order) 4 (atMost 17 n)) (u .result) n 4 (sixteen (m .before .before)) (u .ensures .0) (bytes-length (a .order) 4 (atMost 17 n)) (omega arith) (rw (m .at-most2 .ensures .0) at (w .word .ensures)) (l .floats .ensures) in
+    let e = group-laid (float32 (a .order)) 4 (λ (x : Float). bytes-length (a .order) 4 (toBits binary32 x)) (a .gains .values) (replicate 68 0) _ _ (bytesOf (a .order) 4 (atMost 17 n)) (u .result) n 4 (sixteen (m .before .before)) (u .ensures .0) (u .ensures .1) (bytes-length (a .order) 4 (atMost 17 n)) (omega arith) (rw (m .at-most2 .ensures .0) at (w .word .ensures)) (l .floats .ensures) in
     rw e at (c .before .before .write .ensures)
 
 pub grg-spec : {M : Type 1} → statement M

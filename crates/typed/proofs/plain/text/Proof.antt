@@ -7,8 +7,8 @@ use Rattle.body.specs.declared.kind.Kind.the-variants.{TEXT}
 use Rattle.typed.specs.Texts.{textBody}
 use Rattle.typed.proofs.Texts.{text-size, text-laid, past-end, too-large}
 use borrow.Author.Needs.{needs}
-use Rattle.typed.proofs.text.text.Statement.{statement}
-use Rattle.typed.proofs.text.text.Tie as tie
+use Rattle.typed.proofs.plain.text.Statement.{statement}
+use Rattle.typed.proofs.plain.text.Tie as tie
 
 returns : tie.Need-returns
 returns c =

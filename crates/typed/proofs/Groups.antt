@@ -1,0 +1,188 @@
+-- What a group's values make is read back as the values, for every group that a state may hold.
+use Prim.Native.Nat.{ℕ, zero, suc, _+_, _*_, _^_, _≤_, _<_}
+use mathlib.Core.Path.{_≡_, refl, sym, ap, _∙_}
+use mathlib.Core.Bool.{Bool, true, false}
+use mathlib.Core.List.{List, [], _∷_, _++_, append-assoc}
+use native.Mathlib.Omega.{arith}
+use borrow.Author.Tests.{le-ltb, le-leb, lt-ltb, ltb-true, leb-true, eqb-true, ne-eqb}
+use lib.Dec.{T, eqb, ltb, leb}
+use lib.Ieee.{Float, binary32, ofBits, toBits, fits}
+use lib.Ieee.Bits.{ofBits-toBits, toBits-lt}
+use lib.IntN.{ℤ, pos, negsuc, natAbs}
+use lib.ListN.{length, getD, length-append}
+use lib.Signed.{leZ}
+use mir.Syntax.{w32, w64}
+use mir.Val.{SFits, toZ, ofZ}
+use mir.ValLaws.{toZ-pos, toZ-ofZ, ofZ-fits}
+use Rattle.num.specs.Answer.{Answer, gives}
+use Rattle.num.specs.Choice.{pick, both, either}
+use Rattle.num.specs.Number.{unsignedAt, bytesOf}
+use Rattle.num.specs.declared.Order.{Order}
+use Rattle.num.proofs.Laws.{bytes-length}
+use Rattle.body.specs.Groups.{listed, headOk, offsetAt, offsetsOk, packed, hertzAt, tuned, gainAt, gainsOk, amplified, giqp, gcf, grg}
+use Rattle.body.specs.Levels.{isFinite}
+use Rattle.body.specs.Lists.{each, upto, sixteen}
+use Rattle.body.specs.declared.group.GroupPacking.{GroupPacking}
+use Rattle.body.specs.declared.group.GroupHertz.{GroupHertz}
+use Rattle.body.specs.declared.group.GroupGains.{GroupGains}
+use Rattle.body.proofs.Groups.{listed-whole, packed-good}
+use Rattle.body.proofs.Laws.{both-true, is-pattern}
+use Rattle.state.specs.Good.{isZero, isPlusZero, anyNumber, offset, nothing, goodFrom, goodHead, goodList, goodGroup, goodFrequencies, goodGains}
+use Rattle.state.proofs.Tests.{plus-zero-pattern}
+use Rattle.typed.specs.Bodies.{int64, float32}
+use Rattle.typed.specs.Groups.{laid, atMost, counted, packingBody, hertzBody, gainsBody}
+use Rattle.typed.proofs.Laid.{laid-length}
+use Rattle.typed.proofs.Numbers.{number-at, value-at}
+
+-- ---- lists of sixteen
+
+-- a test that holds below n holds of each
+each-all : (p : ℕ → Bool) (n : ℕ) → ((c : ℕ) → c < n → p c ≡ true) → each p n ≡ true
+unfolding each
+each-all p zero h = refl
+each-all p (suc n) h = rw (each-all p n (λ c k. h c (omega arith)), h n (omega arith))
+
+module _ {A : Type 0} (f : ℕ → A) (d : A) (n : ℕ) where
+  upto-is : (i : ℕ) (l : List A) → ((j : ℕ) → j < length l → pick (ltb (i + j) n) (f (i + j)) d ≡ getD l j d) → upto f d n i (length l) ≡ l
+  unfolding upto
+  upto-is i [] h = refl
+  upto-is i (x ∷ l) h =
+      let e : i + 0 ≡ i = omega arith in
+      let a : pick (ltb i n) (f i) d ≡ x = rw e at (h 0 (omega arith)) in
+      let r : upto f d n (suc i) (length l) ≡ l = upto-is (suc i) l (λ j k. let z : suc i + j ≡ i + suc j = omega arith in rw z (h (suc j) (omega arith))) in
+      rw (a, r)
+
+module _ {A : Type 0} (ok none : A → Bool) (d : A) (n : ℕ) where
+  -- what a good list has at a place
+  good-at : (i j : ℕ) (l : List A) → goodFrom ok none n i l ≡ true → j < length l → pick (ltb (i + j) n) (ok (getD l j d)) (none (getD l j d)) ≡ true
+  unfolding goodFrom
+  good-at i j [] g h = absurd (omega arith)
+  good-at i zero (x ∷ l) g h =
+      let e : i + 0 ≡ i = omega arith in
+      rw e (both-true (pick (ltb i n) (ok x) (none x)) (goodFrom ok none n (suc i) l) g .0)
+  good-at i (suc j) (x ∷ l) g h =
+      let e : i + suc j ≡ suc i + j = omega arith in
+      rw e (good-at (suc i) j l (both-true (pick (ltb i n) (ok x) (none x)) (goodFrom ok none n (suc i) l) g .1) (omega arith))
+
+  used-at : (c : ℕ) (l : List A) → goodFrom ok none n 0 l ≡ true → c < length l → c < n → ok (getD l c d) ≡ true
+  used-at c l g h k =
+      let e : 0 + c ≡ c = omega arith in
+      rw (e, lt-ltb c n k) at (good-at 0 c l g h)
+
+  module _ (f : ℕ → A) (l : List A) (good : goodFrom ok none n 0 l ≡ true)
+      (used : (c : ℕ) → c < n → f c ≡ getD l c d) (unused : (c : ℕ) → none (getD l c d) ≡ true → getD l c d ≡ d) where
+    place-back : (c : ℕ) (b : Bool) → ltb c n ≡ b → c < length l → pick b (f c) d ≡ getD l c d
+    place-back c true e h = used c (ltb-true c n e)
+    place-back c false e h =
+        let z : 0 + c ≡ c = omega arith in
+        sym (unused c (rw (z, e) at (good-at 0 c l good h)))
+
+    -- the places that were read, one by one, are the list
+    list-back : length l ≡ 16 → sixteen f d n ≡ l
+    list-back m = rw m at (upto-is f d n 0 l (λ j h. let z : 0 + j ≡ j = omega arith in rw z (place-back j (ltb j n) refl h)))
+
+-- ---- the count
+
+module _ {A : Type 0} (head value : ℕ) (o : Order) (n : ℕ) (rest : List ℕ) (f : ℕ → Answer A) (few : 1 ≤ n) (many : n ≤ 16) where
+  -- the count is read back, and the values for that count
+  counted-back : 4 ≤ head → length (counted o n rest) ≡ head + value * n → listed head value o (counted o n rest) f ≡ f n
+  counted-back h e =
+      let t : atMost 17 n ≡ n = rw (le-ltb 17 n (omega arith)) in
+      sym (listed-whole head value o (counted o n rest) f n (sym (number-at o 4 (atMost 17 n) [] rest 0 refl (rw t (omega arith)) ∙ t)) (omega arith) few many e)
+
+-- ---- GIQP
+
+packing-small : (b : Bool) → pick b 1 0 < 256 ^ 4
+packing-small true = omega arith
+packing-small false = omega arith
+
+packing-is : (b : Bool) → eqb (pick b 1 0) 1 ≡ b
+packing-is true = refl
+packing-is false = refl
+
+one-or : (a n : ℕ) (b : Bool) → eqb a 1 ≡ b → either b (eqb a n) ≡ true → 1 ≤ n → a ≤ n
+one-or a n true e h k = let i = eqb-true a 1 e in omega arith
+one-or a n false e h k = let i = eqb-true a n h in omega arith
+
+head-back : (b : Bool) (a n : ℕ) → n ≤ 16 → either (eqb a 1) (eqb a n) ≡ true → headOk n (toZ w32 (pick b 1 0)) (toZ w32 a) ≡ true
+head-back true a n h e = rw (is-pattern 1 a (omega arith), is-pattern n a (omega arith)) e
+head-back false a n h e = rw (is-pattern 1 a (omega arith), is-pattern n a (omega arith)) e
+
+pub packing-back : (o : Order) (g : GroupPacking) → goodGroup g ≡ true → 1 ≤ g .n → length (g .offsets) ≡ 16 → giqp o (packingBody o g) ≡ gives g
+unfolding packingBody offsetAt
+packing-back o g good few m =
+    let n = g .n in
+    let a = both-true (goodHead g) (goodList offset nothing n (g .offsets)) good in
+    let b = both-true (leb n 16) (goodFrom offset nothing n 0 (g .offsets)) (a .1) in
+    let many : n ≤ 16 = leb-true n 16 (b .0) in
+    let i : either (eqb (g .increment) 1) (eqb (g .increment) n) ≡ true = rw (ne-eqb n 0 (λ e. omega arith)) at (a .0) in
+    let small : g .increment ≤ n = one-or (g .increment) n (eqb (g .increment) 1) refl i few in
+    let x = bytesOf o 4 (atMost 17 n) in
+    let y = bytesOf o 4 (pick (g .iq) 1 0) in
+    let z = bytesOf o 4 (g .increment) in
+    let l = laid (bytesOf o 4) n (g .offsets) in
+    let rest = y ++ (z ++ l) in
+    let body = counted o n rest in
+    let j : length (x ++ y) ≡ 8 = simp (length-append, bytes-length) in
+    let k : length ((x ++ y) ++ z) ≡ 12 = simp (length-append, bytes-length) in
+    let s : body ≡ (x ++ y) ++ (z ++ l) = sym (append-assoc x y (z ++ l)) in
+    let t : body ≡ ((x ++ y) ++ z) ++ l = s ∙ sym (append-assoc (x ++ y) z l) in
+    let len : length body ≡ 12 + 4 * n = ap length t ∙ omega (arith, length-append ((x ++ y) ++ z) l, laid-length (bytesOf o 4) 4 (bytes-length o 4) n (g .offsets) (omega arith)) in
+    let p : unsignedAt 4 o body 4 ≡ pick (g .iq) 1 0 = number-at o 4 (pick (g .iq) 1 0) x (z ++ l) 4 (bytes-length o 4 (atMost 17 n)) (packing-small (g .iq)) in
+    let q : unsignedAt 4 o body 8 ≡ g .increment = ap (λ (u : List ℕ). unsignedAt 4 o u 8) s ∙ number-at o 4 (g .increment) (x ++ y) l 8 j (omega arith) in
+    let at : (c : ℕ) → c < n → offsetAt o body c ≡ pos (getD (g .offsets) c 0) = λ c h.
+    let f : getD (g .offsets) c 0 < 2 ^ 31 = ltb-true _ _ (used-at offset nothing 0 n c (g .offsets) (b .1) (omega arith) h) in
+    ap (λ (u : List ℕ). toZ w32 (unsignedAt 4 o u (12 + 4 * c))) t ∙ ap (toZ w32) (value-at o 4 (λ (u : ℕ). u) ((x ++ y) ++ z) 12 n c (g .offsets) 0 k h (omega arith) (omega arith)) ∙ toZ-pos w32 _ f in
+    let r : offsetsOk o body n ≡ true = each-all (λ c. leZ (pos 0) (offsetAt o body c)) n (λ c h. rw (at c h) (le-leb 0 (getD (g .offsets) c 0) (omega arith))) in
+    let v : sixteen (λ c. natAbs (offsetAt o body c)) 0 n ≡ g .offsets =
+    list-back offset nothing 0 n (λ c. natAbs (offsetAt o body c)) (g .offsets) (b .1) (λ c h. ap natAbs (at c h)) (λ c h. eqb-true _ 0 h) m in
+    counted-back 12 4 o n rest (packed o body) few many (omega arith) len
+    ∙ packed-good o body n (pick (g .iq) 1 0) (g .increment) (sym p) (sym q) (head-back (g .iq) (g .increment) n many i) r
+    ∙ rw (packing-is (g .iq), v)
+
+-- ---- GCF_
+
+zero-is : (z : ℤ) → isZero z ≡ true → z ≡ pos 0
+zero-is (pos n) h = ap pos (eqb-true n 0 h)
+zero-is (negsuc n) h = let z : _≡_ {A = ℕ} 0 1 = cc in absurd (omega arith)
+
+-- a count and n values of w bytes
+values-size : {A : Type 0} (o : Order) (w n : ℕ) (pattern : A → ℕ) (xs : List A) → n ≤ length xs → length (counted o n (laid (λ x. bytesOf o w (pattern x)) n xs)) ≡ 4 + w * n
+values-size o w n pattern xs h =
+    let l = laid (λ x. bytesOf o w (pattern x)) n xs in
+    omega (arith, length-append (bytesOf o 4 (atMost 17 n)) l, bytes-length o 4 (atMost 17 n), laid-length (λ x. bytesOf o w (pattern x)) w (λ x. bytes-length o w (pattern x)) n xs h)
+
+pub hertz-back : (o : Order) (g : GroupHertz) → goodFrequencies g ≡ true → 1 ≤ g .n → length (g .values) ≡ 16 → ((c : ℕ) → SFits w64 (getD (g .values) c (pos 0))) →
+    gcf o (hertzBody o g) ≡ gives g
+unfolding hertzBody tuned hertzAt
+hertz-back o g good few m fit =
+    let n = g .n in
+    let b = both-true (leb n 16) (goodFrom anyNumber isZero n 0 (g .values)) good in
+    let many : n ≤ 16 = leb-true n 16 (b .0) in
+    let l = laid (int64 o) n (g .values) in
+    let body = counted o n l in
+    let at : (c : ℕ) → c < n → hertzAt o body c ≡ getD (g .values) c (pos 0) = λ c h.
+    ap (toZ w64) (value-at o 8 (ofZ w64) (bytesOf o 4 (atMost 17 n)) 4 n c (g .values) (pos 0) (bytes-length o 4 (atMost 17 n)) h (omega arith) (ofZ-fits w64 _ (fit c) .fits)) ∙ toZ-ofZ w64 _ (fit c) in
+    counted-back 4 8 o n l (tuned o body) few many (omega arith) (values-size o 8 n (ofZ w64) (g .values) (omega arith))
+    ∙ rw (list-back anyNumber isZero (pos 0) n (hertzAt o body) (g .values) (b .1) at (λ c h. zero-is _ h) m)
+
+-- ---- GRG_
+
+plus-zero-is : (x : Float) → T (fits binary32 x) → isPlusZero x ≡ true → x ≡ ofBits binary32 0
+plus-zero-is x f h = sym (ofBits-toBits binary32 x f) ∙ ap (ofBits binary32) (eqb-true (toBits binary32 x) 0 (plus-zero-pattern x f ∙ h))
+
+pub gains-back : (o : Order) (g : GroupGains) → goodGains g ≡ true → 1 ≤ g .n → length (g .values) ≡ 16 → ((c : ℕ) → T (fits binary32 (getD (g .values) c (ofBits binary32 0)))) →
+    grg o (gainsBody o g) ≡ gives g
+unfolding gainsBody amplified gainAt
+gains-back o g good few m fit =
+    let n = g .n in
+    let d = ofBits binary32 0 in
+    let b = both-true (leb n 16) (goodFrom isFinite isPlusZero n 0 (g .values)) good in
+    let many : n ≤ 16 = leb-true n 16 (b .0) in
+    let l = laid (float32 o) n (g .values) in
+    let body = counted o n l in
+    let at : (c : ℕ) → c < n → gainAt o body c ≡ getD (g .values) c d = λ c h.
+    ap (ofBits binary32) (value-at o 4 (toBits binary32) (bytesOf o 4 (atMost 17 n)) 4 n c (g .values) d (bytes-length o 4 (atMost 17 n)) h (omega arith) (toBits-lt binary32 _ (fit c))) ∙ ofBits-toBits binary32 _ (fit c) in
+    let r : gainsOk o body n ≡ true = each-all (λ c. isFinite (gainAt o body c)) n (λ c h. rw (at c h) (used-at isFinite isPlusZero d n c (g .values) (b .1) (omega arith) h)) in
+    counted-back 4 4 o n l (amplified o body) few many (omega arith) (values-size o 4 n (toBits binary32) (g .values) (omega arith))
+    ∙ rw (r, list-back isFinite isPlusZero d n (gainAt o body) (g .values) (b .1) at (λ c h. plus-zero-is _ (fit c) h) m)
