@@ -1,10 +1,10 @@
--- What a group's values make is read back as the values, for every group that a state may hold.
+-- What a group's values make is read back as the values, for every group that a state may hold; a count above 16 is refused.
 use Prim.Native.Nat.{ℕ, zero, suc, _+_, _*_, _^_, _≤_, _<_}
 use mathlib.Core.Path.{_≡_, refl, sym, ap, _∙_}
 use mathlib.Core.Bool.{Bool, true, false}
 use mathlib.Core.List.{List, [], _∷_, _++_, append-assoc}
 use native.Mathlib.Omega.{arith}
-use borrow.Author.Tests.{le-ltb, le-leb, lt-ltb, ltb-true, leb-true, eqb-true, ne-eqb}
+use borrow.Author.Tests.{le-ltb, le-leb, lt-ltb, ltb-true, ltb-false, leb-true, eqb-true, ne-eqb}
 use lib.Dec.{T, eqb, ltb, leb}
 use lib.Ieee.{Float, binary32, ofBits, toBits, fits}
 use lib.Ieee.Bits.{ofBits-toBits, toBits-lt}
@@ -14,8 +14,8 @@ use lib.Signed.{leZ}
 use mir.Syntax.{w32, w64}
 use mir.Val.{SFits, toZ, ofZ}
 use mir.ValLaws.{toZ-pos, toZ-ofZ, ofZ-fits}
-use Rattle.num.specs.Answer.{Answer, gives}
-use Rattle.num.specs.Choice.{pick, both, either}
+use Rattle.num.specs.Answer.{Answer, gives, refuses}
+use Rattle.num.specs.Choice.{pick, either}
 use Rattle.num.specs.Number.{unsignedAt, bytesOf}
 use Rattle.num.specs.declared.Order.{Order}
 use Rattle.num.proofs.Laws.{bytes-length}
@@ -25,7 +25,7 @@ use Rattle.body.specs.Lists.{each, upto, sixteen}
 use Rattle.body.specs.declared.group.GroupPacking.{GroupPacking}
 use Rattle.body.specs.declared.group.GroupHertz.{GroupHertz}
 use Rattle.body.specs.declared.group.GroupGains.{GroupGains}
-use Rattle.body.proofs.Groups.{listed-whole, packed-good}
+use Rattle.body.proofs.Groups.{listed-many, listed-whole, packed-good}
 use Rattle.body.proofs.Laws.{both-true, is-pattern}
 use Rattle.state.specs.Good.{isZero, isPlusZero, anyNumber, offset, nothing, goodFrom, goodHead, goodList, goodGroup, goodFrequencies, goodGains}
 use Rattle.state.proofs.Tests.{plus-zero-pattern}
@@ -90,6 +90,38 @@ module _ {A : Type 0} (head value : ℕ) (o : Order) (n : ℕ) (rest : List ℕ)
       let t : atMost 17 n ≡ n = rw (le-ltb 17 n (omega arith)) in
       sym (listed-whole head value o (counted o n rest) f n (sym (number-at o 4 (atMost 17 n) [] rest 0 refl (rw t (omega arith)) ∙ t)) (omega arith) few many e)
 
+-- ---- a count that is too large
+
+at-most-many : (n : ℕ) (b : Bool) → ltb 17 n ≡ b → 16 < n → pick b 17 n ≡ 17
+at-most-many n true e h = refl
+at-most-many n false e h = let k = ltb-false 17 n e in omega arith
+
+module _ {A : Type 0} (head value : ℕ) (o : Order) (n : ℕ) (rest : List ℕ) (f : ℕ → Answer A) where
+  counted-many : 16 < n → head ≤ length (counted o n rest) → listed head value o (counted o n rest) f ≡ refuses 13
+  counted-many h k =
+      let t : atMost 17 n ≡ 17 = at-most-many n (ltb 17 n) refl h in
+      sym (listed-many head value o (counted o n rest) f 17 (sym (number-at o 4 (atMost 17 n) [] rest 0 refl (rw t (omega arith)) ∙ t)) k (omega arith))
+
+pub packing-many : (o : Order) (g : GroupPacking) → 16 < g .n → giqp o (packingBody o g) ≡ refuses 13
+unfolding packingBody
+packing-many o g h = counted-many 12 4 o (g .n) _ _ h (simp (length-append, bytes-length) (omega arith))
+
+pub hertz-many : (o : Order) (g : GroupHertz) → 16 < g .n → gcf o (hertzBody o g) ≡ refuses 13
+unfolding hertzBody
+hertz-many o g h = counted-many 4 8 o (g .n) _ _ h (simp (length-append, bytes-length) (omega arith))
+
+pub gains-many : (o : Order) (g : GroupGains) → 16 < g .n → grg o (gainsBody o g) ≡ refuses 13
+unfolding gainsBody
+gains-many o g h = counted-many 4 4 o (g .n) _ _ h (simp (length-append, bytes-length) (omega arith))
+
+-- ---- the size
+
+-- a count and n values of w bytes
+pub values-size : {A : Type 0} (o : Order) (w n : ℕ) (pattern : A → ℕ) (xs : List A) → n ≤ length xs → length (counted o n (laid (λ x. bytesOf o w (pattern x)) n xs)) ≡ 4 + w * n
+values-size o w n pattern xs h =
+    let l = laid (λ x. bytesOf o w (pattern x)) n xs in
+    omega (arith, length-append (bytesOf o 4 (atMost 17 n)) l, bytes-length o 4 (atMost 17 n), laid-length (λ x. bytesOf o w (pattern x)) w (λ x. bytes-length o w (pattern x)) n xs h)
+
 -- ---- GIQP
 
 packing-small : (b : Bool) → pick b 1 0 < 256 ^ 4
@@ -107,6 +139,10 @@ one-or a n false e h k = let i = eqb-true a n h in omega arith
 head-back : (b : Bool) (a n : ℕ) → n ≤ 16 → either (eqb a 1) (eqb a n) ≡ true → headOk n (toZ w32 (pick b 1 0)) (toZ w32 a) ≡ true
 head-back true a n h e = rw (is-pattern 1 a (omega arith), is-pattern n a (omega arith)) e
 head-back false a n h e = rw (is-pattern 1 a (omega arith), is-pattern n a (omega arith)) e
+
+pub packing-size : (o : Order) (g : GroupPacking) → g .n ≤ length (g .offsets) → length (packingBody o g) ≡ 12 + 4 * g .n
+unfolding packingBody
+packing-size o g h = simp (length-append, bytes-length) (omega (arith, laid-length (bytesOf o 4) 4 (bytes-length o 4) (g .n) (g .offsets) h))
 
 pub packing-back : (o : Order) (g : GroupPacking) → goodGroup g ≡ true → 1 ≤ g .n → length (g .offsets) ≡ 16 → giqp o (packingBody o g) ≡ gives g
 unfolding packingBody offsetAt
@@ -127,7 +163,6 @@ packing-back o g good few m =
     let k : length ((x ++ y) ++ z) ≡ 12 = simp (length-append, bytes-length) in
     let s : body ≡ (x ++ y) ++ (z ++ l) = sym (append-assoc x y (z ++ l)) in
     let t : body ≡ ((x ++ y) ++ z) ++ l = s ∙ sym (append-assoc (x ++ y) z l) in
-    let len : length body ≡ 12 + 4 * n = ap length t ∙ omega (arith, length-append ((x ++ y) ++ z) l, laid-length (bytesOf o 4) 4 (bytes-length o 4) n (g .offsets) (omega arith)) in
     let p : unsignedAt 4 o body 4 ≡ pick (g .iq) 1 0 = number-at o 4 (pick (g .iq) 1 0) x (z ++ l) 4 (bytes-length o 4 (atMost 17 n)) (packing-small (g .iq)) in
     let q : unsignedAt 4 o body 8 ≡ g .increment = ap (λ (u : List ℕ). unsignedAt 4 o u 8) s ∙ number-at o 4 (g .increment) (x ++ y) l 8 j (omega arith) in
     let at : (c : ℕ) → c < n → offsetAt o body c ≡ pos (getD (g .offsets) c 0) = λ c h.
@@ -136,7 +171,7 @@ packing-back o g good few m =
     let r : offsetsOk o body n ≡ true = each-all (λ c. leZ (pos 0) (offsetAt o body c)) n (λ c h. rw (at c h) (le-leb 0 (getD (g .offsets) c 0) (omega arith))) in
     let v : sixteen (λ c. natAbs (offsetAt o body c)) 0 n ≡ g .offsets =
     list-back offset nothing 0 n (λ c. natAbs (offsetAt o body c)) (g .offsets) (b .1) (λ c h. ap natAbs (at c h)) (λ c h. eqb-true _ 0 h) m in
-    counted-back 12 4 o n rest (packed o body) few many (omega arith) len
+    counted-back 12 4 o n rest (packed o body) few many (omega arith) (packing-size o g (omega arith))
     ∙ packed-good o body n (pick (g .iq) 1 0) (g .increment) (sym p) (sym q) (head-back (g .iq) (g .increment) n many i) r
     ∙ rw (packing-is (g .iq), v)
 
@@ -145,12 +180,6 @@ packing-back o g good few m =
 zero-is : (z : ℤ) → isZero z ≡ true → z ≡ pos 0
 zero-is (pos n) h = ap pos (eqb-true n 0 h)
 zero-is (negsuc n) h = let z : _≡_ {A = ℕ} 0 1 = cc in absurd (omega arith)
-
--- a count and n values of w bytes
-values-size : {A : Type 0} (o : Order) (w n : ℕ) (pattern : A → ℕ) (xs : List A) → n ≤ length xs → length (counted o n (laid (λ x. bytesOf o w (pattern x)) n xs)) ≡ 4 + w * n
-values-size o w n pattern xs h =
-    let l = laid (λ x. bytesOf o w (pattern x)) n xs in
-    omega (arith, length-append (bytesOf o 4 (atMost 17 n)) l, bytes-length o 4 (atMost 17 n), laid-length (λ x. bytesOf o w (pattern x)) w (λ x. bytes-length o w (pattern x)) n xs h)
 
 pub hertz-back : (o : Order) (g : GroupHertz) → goodFrequencies g ≡ true → 1 ≤ g .n → length (g .values) ≡ 16 → ((c : ℕ) → SFits w64 (getD (g .values) c (pos 0))) →
     gcf o (hertzBody o g) ≡ gives g

@@ -3,3 +3,4 @@ pub mod Numbers
 pub mod Laid
 pub mod Texts
 pub mod Groups
+pub mod Taken

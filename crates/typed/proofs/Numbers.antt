@@ -9,7 +9,7 @@ use lib.Dec.{T}
 use lib.Ieee.{Float, binary32, ofBits, toBits, fits, lt}
 use lib.Ieee.Bits.{ofBits-toBits, toBits-lt}
 use lib.IntN.{ℤ, pos}
-use lib.ListN.{length, take, drop, getD, length-append}
+use lib.ListN.{length, take, getD, length-append}
 use lib.Seq.{take-at, drop-at}
 use lib.Signed.{leZ}
 use mir.Syntax.{w32, w64}

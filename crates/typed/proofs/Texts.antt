@@ -1,5 +1,5 @@
 -- Laws of a text's bytes: how many they are, how they are laid, and that too many are refused.
-use Prim.Native.Nat.{ℕ, zero, suc, _^_, _+_, _-_, _*_, _/_, _≤_, _<_}
+use Prim.Native.Nat.{ℕ, zero, suc, _^_, _+_, _-_, _≤_, _<_}
 use mathlib.Core.Path.{_≡_, refl, sym, ap, _∙_}
 use mathlib.Core.Bool.{true}
 use mathlib.Core.List.{List, [], _++_, append-assoc}

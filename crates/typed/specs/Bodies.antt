@@ -1,5 +1,5 @@
 -- The bytes that the values of a kind make.
-use mathlib.Core.List.{List, _++_}
+use mathlib.Core.List.{List}
 use Prim.Native.Nat.{ℕ}
 use lib.Ieee.{Float, binary32, toBits}
 use lib.IntN.{ℤ}

@@ -1,5 +1,5 @@
 -- After j turns the first j bytes of src stand in out, and all of them at the end.
-use Prim.Native.Nat.{_+_, _-_, _≤_}
+use Prim.Native.Nat.{_-_, _≤_}
 use mathlib.Core.Path.{_≡_, ap, _∙_}
 use mathlib.Core.List.{append-assoc}
 use native.Mathlib.Numerals.{add-one}
