@@ -1,6 +1,7 @@
 pub mod Floats
-pub mod Numbers
 pub mod Laid
-pub mod Texts
+pub mod Writes
+pub mod Numbers
 pub mod Groups
+pub mod Texts
 pub mod Taken

@@ -1,13 +1,13 @@
--- Laws of a text's bytes: how many they are, how they are laid, and that too many are refused.
+-- Laws of a text's bytes: how many they are, how they are laid, and how they are read back.
 use Prim.Native.Nat.{ℕ, zero, suc, _^_, _+_, _-_, _≤_, _<_}
 use mathlib.Core.Path.{_≡_, refl, sym, ap, _∙_}
 use mathlib.Core.Bool.{true}
 use mathlib.Core.List.{List, [], _++_, append-assoc}
 use native.Mathlib.Omega.{arith}
-use borrow.Author.Tests.{lt-ltb, le-ltb, lt-leb, eq-eqb}
+use borrow.Author.Tests.{eq-eqb}
 use lib.ListN.{length, take, drop, replicate, length-append, length-replicate, replicate-append-replicate}
 use lib.Seq.{take-at, drop-at, take-append-add}
-use Rattle.num.specs.Answer.{gives, refuses}
+use Rattle.num.specs.Answer.{gives}
 use Rattle.num.specs.Number.{bytesOf}
 use Rattle.num.specs.declared.Order.{Order}
 use Rattle.num.proofs.Laws.{bytes-length}
@@ -15,7 +15,7 @@ use Rattle.text.specs.Utf8.{isUtf8}
 use Rattle.body.specs.Plain.{padded, texts, text}
 use Rattle.body.specs.Plain as plain
 use Rattle.body.proofs.Texts.{text-length}
-use Rattle.writer.specs.Write.{splice, writeOf, writtenOut}
+use Rattle.writer.specs.Write.{splice}
 use Rattle.typed.specs.Texts.{textBody}
 use Rattle.typed.proofs.Laid.{after}
 use Rattle.typed.proofs.Numbers.{number-at}
@@ -53,13 +53,6 @@ module _ (o : Order) (t : List ℕ) where
       ∙ ap (λ (i : List ℕ). (x ++ t) ++ take p (drop (0 + length (x ++ t)) i)) z
       ∙ ap (λ (i : List ℕ). (x ++ t) ++ i) (zeros-part (0 + length (x ++ t)) p k (omega arith))
       ∙ append-assoc x t (replicate p 0)
-
-module _ (o : Order) (code : ℕ) (body d : List ℕ) (place : ℕ) where
-  pub past-end : length d < place → (refuses 2 ≡ writeOf o code body (length d) place) × (d ≡ writtenOut o code body d place)
-  past-end h = rw (lt-ltb (length d) place h) (refl, refl)
-
-  pub too-large : place ≤ length d → 69632 < length body → (refuses 32 ≡ writeOf o code body (length d) place) × (d ≡ writtenOut o code body d place)
-  too-large h k = rw (le-ltb (length d) place h, lt-leb (length body) 69632 k) (refl, refl)
 
 -- ---- a text is read back
 

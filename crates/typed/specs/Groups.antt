@@ -23,7 +23,7 @@ atMost limit n = pick (ltb limit n) limit n
 abbrev pub counted : Order → ℕ → List ℕ → List ℕ
 counted o n rest = bytesOf o 4 (atMost 17 n) ++ rest
 
--- GIQP: the count, the packing, the increment, the offsets
+-- GIQP: the count, the packing, the increment, the offsets; one of 2^31 or more stands as a negative number, which the row refuses
 unfoldable pub packingBody : Order → GroupPacking → List ℕ
 packingBody o g = counted o (g .n) (bytesOf o 4 (pick (g .iq) 1 0) ++ (bytesOf o 4 (g .increment) ++ laid (bytesOf o 4) (g .n) (g .offsets)))
 
@@ -31,6 +31,6 @@ packingBody o g = counted o (g .n) (bytesOf o 4 (pick (g .iq) 1 0) ++ (bytesOf o
 unfoldable pub hertzBody : Order → GroupHertz → List ℕ
 hertzBody o g = counted o (g .n) (laid (int64 o) (g .n) (g .values))
 
--- GRG_: the count, the gains
+-- GRG_: the count, the gains; a NaN stands by its one pattern, which the row refuses
 unfoldable pub gainsBody : Order → GroupGains → List ℕ
 gainsBody o g = counted o (g .n) (laid (float32 o) (g .n) (g .values))

@@ -9,8 +9,11 @@ use mir.Val.{ofZ}
 use Rattle.num.specs.Number.{bytesOf}
 use Rattle.num.proofs.Laws.{bytes-length}
 use Rattle.typed.specs.Bodies.{int64}
+use Rattle.body.specs.Kind.{codeOf}
+use Rattle.body.specs.declared.kind.Kind.the-variants.{GCF}
 use Rattle.typed.specs.Groups.{atMost, hertzBody}
 use Rattle.typed.proofs.Laid.{group-laid}
+use Rattle.typed.proofs.Writes.{same-body}
 use borrow.Author.Needs.{needs}
 use Rattle.typed.proofs.group.gcf.Statement.{statement}
 use Rattle.typed.proofs.group.gcf.Tie as tie
@@ -68,7 +71,7 @@ returns c =
     let n = a .hertz .n in
     let u = m .before .at-most in
     let e = group-laid (int64 (a .order)) 8 (λ (x : ℤ). bytes-length (a .order) 8 (ofZ w64 x)) (a .hertz .values) (replicate 132 0) _ _ (bytesOf (a .order) 4 (atMost 17 n)) (u .result) n 4 (sixteen (m .before .before)) (u .ensures .0) (u .ensures .1) (bytes-length (a .order) 4 (atMost 17 n)) (omega arith) (rw (m .at-most2 .ensures .0) at (w .word .ensures)) (l .longs .ensures) in
-    rw e at (c .before .before .write .ensures)
+    same-body (a .order) (codeOf GCF) _ (hertzBody (a .order) (a .hertz)) (a .out .now) (a .place) _ _ e (c .before .before .write .ensures)
 
 pub gcf-spec : {M : Type 1} → statement M
 gcf-spec =

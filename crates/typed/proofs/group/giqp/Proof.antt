@@ -7,8 +7,11 @@ use lib.Seq.{length-take-le}
 use Rattle.num.specs.Choice.{pick}
 use Rattle.num.specs.Number.{bytesOf}
 use Rattle.num.proofs.Laws.{bytes-length}
+use Rattle.body.specs.Kind.{codeOf}
+use Rattle.body.specs.declared.kind.Kind.the-variants.{GIQP}
 use Rattle.typed.specs.Groups.{laid, atMost, packingBody}
 use Rattle.typed.proofs.Laid.{three-laid, group-laid}
+use Rattle.typed.proofs.Writes.{same-body}
 use borrow.Author.Needs.{needs}
 use Rattle.typed.proofs.group.giqp.Statement.{statement}
 use Rattle.typed.proofs.group.giqp.Tie as tie
@@ -91,7 +94,7 @@ returns c =
     let n : length ((x ++ y) ++ z) ≡ 12 = simp (length-append, bytes-length) in
     let e = group-laid (bytesOf o 4) 4 (bytes-length o 4) (g .offsets) (replicate 76 0) _ _ ((x ++ y) ++ z) (u .result) (g .n) 12 (sixteen (m .before .before)) (u .ensures .0) (u .ensures .1) n (omega arith) h (l .words .ensures) in
     let k : ((x ++ y) ++ z) ++ laid (bytesOf o 4) (g .n) (g .offsets) ≡ x ++ (y ++ (z ++ laid (bytesOf o 4) (g .n) (g .offsets))) = simp append-assoc in
-    rw (e ∙ k) at (c .before .before .write .ensures)
+    same-body (a .order) (codeOf GIQP) _ (packingBody (a .order) (a .packing)) (a .out .now) (a .place) _ _ (e ∙ k) (c .before .before .write .ensures)
 
 pub giqp-spec : {M : Type 1} → statement M
 giqp-spec =

@@ -7,8 +7,11 @@ use lib.Ieee.{Float, binary32, toBits}
 use Rattle.num.specs.Number.{bytesOf}
 use Rattle.num.proofs.Laws.{bytes-length}
 use Rattle.typed.specs.Bodies.{float32}
+use Rattle.body.specs.Kind.{codeOf}
+use Rattle.body.specs.declared.kind.Kind.the-variants.{GRG}
 use Rattle.typed.specs.Groups.{atMost, gainsBody}
 use Rattle.typed.proofs.Laid.{group-laid}
+use Rattle.typed.proofs.Writes.{same-body}
 use borrow.Author.Needs.{needs}
 use Rattle.typed.proofs.group.grg.Statement.{statement}
 use Rattle.typed.proofs.group.grg.Tie as tie
@@ -66,7 +69,7 @@ returns c =
     let n = a .gains .n in
     let u = m .before .at-most in
     let e = group-laid (float32 (a .order)) 4 (λ (x : Float). bytes-length (a .order) 4 (toBits binary32 x)) (a .gains .values) (replicate 68 0) _ _ (bytesOf (a .order) 4 (atMost 17 n)) (u .result) n 4 (sixteen (m .before .before)) (u .ensures .0) (u .ensures .1) (bytes-length (a .order) 4 (atMost 17 n)) (omega arith) (rw (m .at-most2 .ensures .0) at (w .word .ensures)) (l .floats .ensures) in
-    rw e at (c .before .before .write .ensures)
+    same-body (a .order) (codeOf GRG) _ (gainsBody (a .order) (a .gains)) (a .out .now) (a .place) _ _ e (c .before .before .write .ensures)
 
 pub grg-spec : {M : Type 1} → statement M
 grg-spec =

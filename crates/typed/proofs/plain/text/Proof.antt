@@ -5,7 +5,8 @@ use lib.Seq.{length-take-le}
 use Rattle.body.specs.Kind.{codeOf}
 use Rattle.body.specs.declared.kind.Kind.the-variants.{TEXT}
 use Rattle.typed.specs.Texts.{textBody}
-use Rattle.typed.proofs.Texts.{text-size, text-laid, past-end, too-large}
+use Rattle.typed.proofs.Texts.{text-size, text-laid}
+use Rattle.typed.proofs.Writes.{same-body, past-end, too-large}
 use borrow.Author.Needs.{needs}
 use Rattle.typed.proofs.plain.text.Statement.{statement}
 use Rattle.typed.proofs.plain.text.Tie as tie
@@ -66,7 +67,7 @@ returns-3 c =
     let r = w .before .before in
     let a = r .before .before .before .before .before .args in
     let e = text-laid (a .order) (a .bytes .now) 69632 _ _ _ (r .room .ensures) (omega arith) (w .word .ensures) (p .put .ensures) in
-    rw e at (c .before .before .write .ensures)
+    same-body (a .order) (codeOf TEXT) _ (textBody (a .order) (a .bytes .now)) (a .out .now) (a .place) _ _ e (c .before .before .write .ensures)
 
 pub text-spec : {M : Type 1} → statement M
 text-spec =
