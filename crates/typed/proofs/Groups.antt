@@ -1,4 +1,4 @@
--- What a group's values make is read back as the values, for every group that a state may hold; a count above 16 is refused.
+-- What a group's values make is read back as the values, for every group that a state may hold; what the row does not allow is refused.
 use Prim.Native.Nat.{ℕ, zero, suc, _+_, _*_, _^_, _≤_, _<_}
 use mathlib.Core.Path.{_≡_, refl, sym, ap, _∙_}
 use mathlib.Core.Bool.{Bool, true, false}
@@ -25,8 +25,9 @@ use Rattle.body.specs.Lists.{each, upto, sixteen}
 use Rattle.body.specs.declared.group.GroupPacking.{GroupPacking}
 use Rattle.body.specs.declared.group.GroupHertz.{GroupHertz}
 use Rattle.body.specs.declared.group.GroupGains.{GroupGains}
-use Rattle.body.proofs.Groups.{listed-many, listed-whole, packed-good}
-use Rattle.body.proofs.Laws.{both-true, is-pattern}
+use Rattle.body.proofs.Groups.{listed-many, listed-whole, packed-head, packed-offsets, packed-good}
+use Rattle.body.proofs.Laws.{both-true, negative32, is-pattern}
+use Rattle.body.proofs.Lists.{each-stop}
 use Rattle.state.specs.Good.{isZero, isPlusZero, anyNumber, offset, nothing, goodFrom, goodHead, goodList, goodGroup, goodFrequencies, goodGains}
 use Rattle.state.proofs.Tests.{plus-zero-pattern}
 use Rattle.typed.specs.Bodies.{int64, float32}
@@ -144,36 +145,76 @@ pub packing-size : (o : Order) (g : GroupPacking) → g .n ≤ length (g .offset
 unfolding packingBody
 packing-size o g h = simp (length-append, bytes-length) (omega (arith, laid-length (bytesOf o 4) 4 (bytes-length o 4) (g .n) (g .offsets) h))
 
+module _ (o : Order) (g : GroupPacking) (few : 1 ≤ g .n) (many : g .n ≤ 16) (all : length (g .offsets) ≡ 16)
+    (step : g .increment < 2 ^ 32) (fit : (c : ℕ) → c < g .n → getD (g .offsets) c 0 < 2 ^ 32) where
+  abbrev count : List ℕ
+  count = bytesOf o 4 (atMost 17 (g .n))
+
+  abbrev iq : List ℕ
+  iq = bytesOf o 4 (pick (g .iq) 1 0)
+
+  abbrev increment : List ℕ
+  increment = bytesOf o 4 (g .increment)
+
+  abbrev offsets : List ℕ
+  offsets = laid (bytesOf o 4) (g .n) (g .offsets)
+
+  packing-read : giqp o (packingBody o g) ≡ packed o (packingBody o g) (g .n)
+  unfolding packingBody
+  packing-read = counted-back 12 4 o (g .n) (iq ++ (increment ++ offsets)) (packed o (packingBody o g)) few many (omega arith) (packing-size o g (omega arith))
+
+  iq-at : pick (g .iq) 1 0 ≡ unsignedAt 4 o (packingBody o g) 4
+  unfolding packingBody
+  iq-at = sym (number-at o 4 (pick (g .iq) 1 0) count (increment ++ offsets) 4 (bytes-length o 4 (atMost 17 (g .n))) (packing-small (g .iq)))
+
+  increment-at : g .increment ≡ unsignedAt 4 o (packingBody o g) 8
+  unfolding packingBody
+  increment-at =
+      let n : length (count ++ iq) ≡ 8 = simp (length-append, bytes-length) in
+      sym (ap (λ (l : List ℕ). unsignedAt 4 o l 8) (sym (append-assoc count iq (increment ++ offsets))) ∙ number-at o 4 (g .increment) (count ++ iq) offsets 8 n step)
+
+  offset-at : (c : ℕ) → c < g .n → offsetAt o (packingBody o g) c ≡ toZ w32 (getD (g .offsets) c 0)
+  unfolding packingBody offsetAt
+  offset-at c h =
+      let front = (count ++ iq) ++ increment in
+      let n : length front ≡ 12 = simp (length-append, bytes-length) in
+      let e : count ++ (iq ++ (increment ++ offsets)) ≡ front ++ offsets = sym (simp append-assoc) in
+      ap (λ (l : List ℕ). toZ w32 (unsignedAt 4 o l (12 + 4 * c))) e
+      ∙ ap (toZ w32) (value-at o 4 (λ (x : ℕ). x) front 12 (g .n) c (g .offsets) 0 n h (omega arith) (fit c h))
+
+  refused-by : (b : Bool) → headOk (g .n) (toZ w32 (pick (g .iq) 1 0)) (toZ w32 (g .increment)) ≡ b → offsetsOk o (packingBody o g) (g .n) ≡ false → packed o (packingBody o g) (g .n) ≡ refuses 12
+  refused-by true e h = packed-offsets o (packingBody o g) (g .n) (pick (g .iq) 1 0) (g .increment) iq-at increment-at e h
+  refused-by false e h = packed-head o (packingBody o g) (g .n) (pick (g .iq) 1 0) (g .increment) iq-at increment-at e
+
+  -- an offset of 2^31 or more is refused
+  pub offset-refused : (c : ℕ) → c < g .n → 2 ^ 31 ≤ getD (g .offsets) c 0 → giqp o (packingBody o g) ≡ refuses 12
+  offset-refused c h k =
+      packing-read
+      ∙ refused-by _ refl (each-stop (λ i. leZ (pos 0) (offsetAt o (packingBody o g) i)) (g .n) c h (rw (offset-at c h, negative32 (getD (g .offsets) c 0) k)))
+
+  -- a good group is read back
+  good-back : goodGroup g ≡ true → giqp o (packingBody o g) ≡ gives g
+  good-back good =
+      let a = both-true (goodHead g) (goodList offset nothing (g .n) (g .offsets)) good in
+      let b = both-true (leb (g .n) 16) (goodFrom offset nothing (g .n) 0 (g .offsets)) (a .1) .1 in
+      let i : either (eqb (g .increment) 1) (eqb (g .increment) (g .n)) ≡ true = rw (ne-eqb (g .n) 0 (λ e. omega arith)) at (a .0) in
+      let r : offsetsOk o (packingBody o g) (g .n) ≡ true = each-all (λ c. leZ (pos 0) (offsetAt o (packingBody o g) c)) (g .n) (λ c h. rw (is-offset b c h) (le-leb 0 (getD (g .offsets) c 0) (omega arith))) in
+      let v : sixteen (λ c. natAbs (offsetAt o (packingBody o g) c)) 0 (g .n) ≡ g .offsets = list-back offset nothing 0 (g .n) _ (g .offsets) b (λ c h. ap natAbs (is-offset b c h)) (λ c h. eqb-true _ 0 h) all in
+      packing-read
+      ∙ packed-good o (packingBody o g) (g .n) (pick (g .iq) 1 0) (g .increment) iq-at increment-at (head-back (g .iq) (g .increment) (g .n) many i) r
+      ∙ rw (packing-is (g .iq), v)
+    where
+      is-offset : goodFrom offset nothing (g .n) 0 (g .offsets) ≡ true → (c : ℕ) → c < g .n → offsetAt o (packingBody o g) c ≡ pos (getD (g .offsets) c 0)
+      is-offset b c h = offset-at c h ∙ toZ-pos w32 (getD (g .offsets) c 0) (ltb-true _ _ (used-at offset nothing 0 (g .n) c (g .offsets) b (omega arith) h))
+
 pub packing-back : (o : Order) (g : GroupPacking) → goodGroup g ≡ true → 1 ≤ g .n → length (g .offsets) ≡ 16 → giqp o (packingBody o g) ≡ gives g
-unfolding packingBody offsetAt
-packing-back o g good few m =
-    let n = g .n in
-    let a = both-true (goodHead g) (goodList offset nothing n (g .offsets)) good in
-    let b = both-true (leb n 16) (goodFrom offset nothing n 0 (g .offsets)) (a .1) in
-    let many : n ≤ 16 = leb-true n 16 (b .0) in
-    let i : either (eqb (g .increment) 1) (eqb (g .increment) n) ≡ true = rw (ne-eqb n 0 (λ e. omega arith)) at (a .0) in
-    let small : g .increment ≤ n = one-or (g .increment) n (eqb (g .increment) 1) refl i few in
-    let x = bytesOf o 4 (atMost 17 n) in
-    let y = bytesOf o 4 (pick (g .iq) 1 0) in
-    let z = bytesOf o 4 (g .increment) in
-    let l = laid (bytesOf o 4) n (g .offsets) in
-    let rest = y ++ (z ++ l) in
-    let body = counted o n rest in
-    let j : length (x ++ y) ≡ 8 = simp (length-append, bytes-length) in
-    let k : length ((x ++ y) ++ z) ≡ 12 = simp (length-append, bytes-length) in
-    let s : body ≡ (x ++ y) ++ (z ++ l) = sym (append-assoc x y (z ++ l)) in
-    let t : body ≡ ((x ++ y) ++ z) ++ l = s ∙ sym (append-assoc (x ++ y) z l) in
-    let p : unsignedAt 4 o body 4 ≡ pick (g .iq) 1 0 = number-at o 4 (pick (g .iq) 1 0) x (z ++ l) 4 (bytes-length o 4 (atMost 17 n)) (packing-small (g .iq)) in
-    let q : unsignedAt 4 o body 8 ≡ g .increment = ap (λ (u : List ℕ). unsignedAt 4 o u 8) s ∙ number-at o 4 (g .increment) (x ++ y) l 8 j (omega arith) in
-    let at : (c : ℕ) → c < n → offsetAt o body c ≡ pos (getD (g .offsets) c 0) = λ c h.
-    let f : getD (g .offsets) c 0 < 2 ^ 31 = ltb-true _ _ (used-at offset nothing 0 n c (g .offsets) (b .1) (omega arith) h) in
-    ap (λ (u : List ℕ). toZ w32 (unsignedAt 4 o u (12 + 4 * c))) t ∙ ap (toZ w32) (value-at o 4 (λ (u : ℕ). u) ((x ++ y) ++ z) 12 n c (g .offsets) 0 k h (omega arith) (omega arith)) ∙ toZ-pos w32 _ f in
-    let r : offsetsOk o body n ≡ true = each-all (λ c. leZ (pos 0) (offsetAt o body c)) n (λ c h. rw (at c h) (le-leb 0 (getD (g .offsets) c 0) (omega arith))) in
-    let v : sixteen (λ c. natAbs (offsetAt o body c)) 0 n ≡ g .offsets =
-    list-back offset nothing 0 n (λ c. natAbs (offsetAt o body c)) (g .offsets) (b .1) (λ c h. ap natAbs (at c h)) (λ c h. eqb-true _ 0 h) m in
-    counted-back 12 4 o n rest (packed o body) few many (omega arith) (packing-size o g (omega arith))
-    ∙ packed-good o body n (pick (g .iq) 1 0) (g .increment) (sym p) (sym q) (head-back (g .iq) (g .increment) n many i) r
-    ∙ rw (packing-is (g .iq), v)
+packing-back o g good few all =
+    let a = both-true (goodHead g) (goodList offset nothing (g .n) (g .offsets)) good in
+    let b = both-true (leb (g .n) 16) (goodFrom offset nothing (g .n) 0 (g .offsets)) (a .1) in
+    let many = leb-true (g .n) 16 (b .0) in
+    let i : either (eqb (g .increment) 1) (eqb (g .increment) (g .n)) ≡ true = rw (ne-eqb (g .n) 0 (λ e. omega arith)) at (a .0) in
+    let small = one-or (g .increment) (g .n) (eqb (g .increment) 1) refl i few in
+    good-back o g few many all (omega arith) (λ c h. let k = ltb-true (getD (g .offsets) c 0) (2 ^ 31) (used-at offset nothing 0 (g .n) c (g .offsets) (b .1) (omega arith) h) in omega arith) good
 
 -- ---- GCF_
 
@@ -181,37 +222,53 @@ zero-is : (z : ℤ) → isZero z ≡ true → z ≡ pos 0
 zero-is (pos n) h = ap pos (eqb-true n 0 h)
 zero-is (negsuc n) h = let z : _≡_ {A = ℕ} 0 1 = cc in absurd (omega arith)
 
-pub hertz-back : (o : Order) (g : GroupHertz) → goodFrequencies g ≡ true → 1 ≤ g .n → length (g .values) ≡ 16 → ((c : ℕ) → SFits w64 (getD (g .values) c (pos 0))) →
-    gcf o (hertzBody o g) ≡ gives g
-unfolding hertzBody tuned hertzAt
-hertz-back o g good few m fit =
-    let n = g .n in
-    let b = both-true (leb n 16) (goodFrom anyNumber isZero n 0 (g .values)) good in
-    let many : n ≤ 16 = leb-true n 16 (b .0) in
-    let l = laid (int64 o) n (g .values) in
-    let body = counted o n l in
-    let at : (c : ℕ) → c < n → hertzAt o body c ≡ getD (g .values) c (pos 0) = λ c h.
-    ap (toZ w64) (value-at o 8 (ofZ w64) (bytesOf o 4 (atMost 17 n)) 4 n c (g .values) (pos 0) (bytes-length o 4 (atMost 17 n)) h (omega arith) (ofZ-fits w64 _ (fit c) .fits)) ∙ toZ-ofZ w64 _ (fit c) in
-    counted-back 4 8 o n l (tuned o body) few many (omega arith) (values-size o 8 n (ofZ w64) (g .values) (omega arith))
-    ∙ rw (list-back anyNumber isZero (pos 0) n (hertzAt o body) (g .values) (b .1) at (λ c h. zero-is _ h) m)
+module _ (o : Order) (g : GroupHertz) (good : goodFrequencies g ≡ true) (few : 1 ≤ g .n) (all : length (g .values) ≡ 16)
+    (fit : (c : ℕ) → SFits w64 (getD (g .values) c (pos 0))) where
+  hertz-at : (c : ℕ) → g .n ≤ 16 → c < g .n → hertzAt o (hertzBody o g) c ≡ getD (g .values) c (pos 0)
+  unfolding hertzBody hertzAt
+  hertz-at c many h =
+      ap (toZ w64) (value-at o 8 (ofZ w64) (bytesOf o 4 (atMost 17 (g .n))) 4 (g .n) c (g .values) (pos 0) (bytes-length o 4 (atMost 17 (g .n))) h (omega arith) (ofZ-fits w64 _ (fit c) .fits))
+      ∙ toZ-ofZ w64 _ (fit c)
+
+  pub hertz-back : gcf o (hertzBody o g) ≡ gives g
+  unfolding hertzBody tuned
+  hertz-back =
+      let b = both-true (leb (g .n) 16) (goodFrom anyNumber isZero (g .n) 0 (g .values)) good in
+      let many = leb-true (g .n) 16 (b .0) in
+      counted-back 4 8 o (g .n) (laid (int64 o) (g .n) (g .values)) (tuned o (hertzBody o g)) few many (omega arith) (values-size o 8 (g .n) (ofZ w64) (g .values) (omega arith))
+      ∙ rw (list-back anyNumber isZero (pos 0) (g .n) (hertzAt o (hertzBody o g)) (g .values) (b .1) (λ c h. hertz-at c many h) (λ c h. zero-is _ h) all)
 
 -- ---- GRG_
 
 plus-zero-is : (x : Float) → T (fits binary32 x) → isPlusZero x ≡ true → x ≡ ofBits binary32 0
 plus-zero-is x f h = sym (ofBits-toBits binary32 x f) ∙ ap (ofBits binary32) (eqb-true (toBits binary32 x) 0 (plus-zero-pattern x f ∙ h))
 
+module _ (o : Order) (g : GroupGains) (few : 1 ≤ g .n) (many : g .n ≤ 16) (all : length (g .values) ≡ 16)
+    (fit : (c : ℕ) → T (fits binary32 (getD (g .values) c (ofBits binary32 0)))) where
+  gain-at : (c : ℕ) → c < g .n → gainAt o (gainsBody o g) c ≡ getD (g .values) c (ofBits binary32 0)
+  unfolding gainsBody gainAt
+  gain-at c h =
+      ap (ofBits binary32) (value-at o 4 (toBits binary32) (bytesOf o 4 (atMost 17 (g .n))) 4 (g .n) c (g .values) (ofBits binary32 0) (bytes-length o 4 (atMost 17 (g .n))) h (omega arith) (toBits-lt binary32 _ (fit c)))
+      ∙ ofBits-toBits binary32 _ (fit c)
+
+  gains-read : grg o (gainsBody o g) ≡ amplified o (gainsBody o g) (g .n)
+  unfolding gainsBody
+  gains-read = counted-back 4 4 o (g .n) (laid (float32 o) (g .n) (g .values)) (amplified o (gainsBody o g)) few many (omega arith) (values-size o 4 (g .n) (toBits binary32) (g .values) (omega arith))
+
+  -- a gain that is a NaN or an infinity is refused
+  pub gain-refused : (c : ℕ) → c < g .n → isFinite (getD (g .values) c (ofBits binary32 0)) ≡ false → grg o (gainsBody o g) ≡ refuses 12
+  unfolding amplified
+  gain-refused c h k = gains-read ∙ rw (each-stop (λ i. isFinite (gainAt o (gainsBody o g) i)) (g .n) c h (ap isFinite (gain-at c h) ∙ k))
+
+  finite-back : goodFrom isFinite isPlusZero (g .n) 0 (g .values) ≡ true → grg o (gainsBody o g) ≡ gives g
+  unfolding amplified
+  finite-back b =
+      let d = ofBits binary32 0 in
+      let r : gainsOk o (gainsBody o g) (g .n) ≡ true = each-all (λ c. isFinite (gainAt o (gainsBody o g) c)) (g .n) (λ c h. rw (gain-at c h) (used-at isFinite isPlusZero d (g .n) c (g .values) b (omega arith) h)) in
+      gains-read ∙ rw (r, list-back isFinite isPlusZero d (g .n) (gainAt o (gainsBody o g)) (g .values) b gain-at (λ c h. plus-zero-is _ (fit c) h) all)
+
 pub gains-back : (o : Order) (g : GroupGains) → goodGains g ≡ true → 1 ≤ g .n → length (g .values) ≡ 16 → ((c : ℕ) → T (fits binary32 (getD (g .values) c (ofBits binary32 0)))) →
     grg o (gainsBody o g) ≡ gives g
-unfolding gainsBody amplified gainAt
-gains-back o g good few m fit =
-    let n = g .n in
-    let d = ofBits binary32 0 in
-    let b = both-true (leb n 16) (goodFrom isFinite isPlusZero n 0 (g .values)) good in
-    let many : n ≤ 16 = leb-true n 16 (b .0) in
-    let l = laid (float32 o) n (g .values) in
-    let body = counted o n l in
-    let at : (c : ℕ) → c < n → gainAt o body c ≡ getD (g .values) c d = λ c h.
-    ap (ofBits binary32) (value-at o 4 (toBits binary32) (bytesOf o 4 (atMost 17 n)) 4 n c (g .values) d (bytes-length o 4 (atMost 17 n)) h (omega arith) (toBits-lt binary32 _ (fit c))) ∙ ofBits-toBits binary32 _ (fit c) in
-    let r : gainsOk o body n ≡ true = each-all (λ c. isFinite (gainAt o body c)) n (λ c h. rw (at c h) (used-at isFinite isPlusZero d n c (g .values) (b .1) (omega arith) h)) in
-    counted-back 4 4 o n l (amplified o body) few many (omega arith) (values-size o 4 n (toBits binary32) (g .values) (omega arith))
-    ∙ rw (r, list-back isFinite isPlusZero d n (gainAt o body) (g .values) (b .1) at (λ c h. plus-zero-is _ (fit c) h) m)
+gains-back o g good few all fit =
+    let b = both-true (leb (g .n) 16) (goodFrom isFinite isPlusZero (g .n) 0 (g .values)) good in
+    finite-back o g few (leb-true (g .n) 16 (b .0)) all fit (b .1)
