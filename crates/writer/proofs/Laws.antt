@@ -4,8 +4,9 @@ use mathlib.Core.Path.{_≡_, refl, sym, ap, _∙_}
 use mathlib.Core.Bool.{Bool, true, false}
 use mathlib.Core.List.{List, [], _∷_, _++_, append-assoc}
 use native.Mathlib.Omega.{arith}
+use native.Mathlib.Nat.{add-zero}
 use lib.Dec.{ltb, leb, eqb}
-use lib.ListN.{length, take, drop, length-append, length-drop}
+use lib.ListN.{length, take, drop, length-append, length-drop, take-append-drop}
 use lib.Seq.{take-at, drop-drop, drop-append-add, length-take-le}
 use borrow.Author.Tests.{le-ltb, ltb-true, ltb-false, leb-true}
 use borrow.Rule.Slice.PartMut.{putMid, post-is}
@@ -24,7 +25,7 @@ use Rattle.body.specs.Kind.{kindOf}
 use Rattle.body.specs.Verdict.{verdict}
 use Rattle.body.specs.declared.fault.Checked.{Checked}
 use Rattle.body.specs.declared.fault.Checked.the-variants as C
-use Rattle.writer.specs.Write.{splice, mayWrite, writeOf, laidBy, writtenOut, writtenSaid, isGood}
+use Rattle.writer.specs.Write.{splice, headerBytes, mayWrite, writeOf, laidBy, writtenOut, writtenSaid, isGood}
 use Rattle.writer.specs.declared.Written.{Written}
 use Rattle.writer.specs.declared.Written.the-variants as W
 use Rattle.writer.proofs.Written.{the-type}
@@ -36,6 +37,9 @@ pub lent-back : (d ys : List ℕ) (a e : ℕ) → a ≤ e → length ys ≡ e - 
 lent-back d ys a e h n =
     let m : e ≡ a + length ys = omega arith in
     ap (λ (l : List ℕ). take a d ++ (ys ++ l)) (post-is a e d h ∙ ap (λ (k : ℕ). drop k d) m)
+
+pub splice-nothing : (d : List ℕ) (place : ℕ) → splice d place [] ≡ d
+splice-nothing d place = rw add-zero (take-append-drop place d)
 
 -- the slice is as long as it was
 pub length-splice : (d : List ℕ) (at : ℕ) (u : List ℕ) → at + length u ≤ length d → length (splice d at u) ≡ length d
@@ -55,27 +59,31 @@ splice-splice d at u v q e h =
     ∙ ap (λ (j : ℕ). take q (a ++ r) ++ (v ++ drop (j + length v) (a ++ r))) (sym n)
     ∙ rw (take-at a r q n, drop-append-add a r (length v), drop-drop (length v) (at + length u) d, k) (simp append-assoc)
 
--- the sync word, the type, the size and the body, laid one after the other, are a chunk
-pub chunk-laid : (o : Order) (code p : ℕ) (body d d₁ d₂ d₃ d₄ : List ℕ) → p + 12 + length body ≤ length d →
+-- bytes laid where those before them end
+pub laid-on : (p : ℕ) (d d₁ d₂ u v : List ℕ) (q : ℕ) → q ≡ p + length u → p + length u ≤ length d → d₁ ≡ splice d p u → d₂ ≡ splice d₁ q v → d₂ ≡ splice d p (u ++ v)
+laid-on p d d₁ d₂ u v q e h e₁ e₂ = e₂ ∙ ap (λ (l : List ℕ). splice l q v) e₁ ∙ splice-splice d p u v q e h
+
+pub header-length : (o : Order) (code size : ℕ) → length (headerBytes o code size) ≡ 12
+header-length o code size = simp (length-append, bytes-length) (omega arith)
+
+-- the sync word, the type and the size, laid one after the other, are a header
+pub header-laid : (o : Order) (code size p : ℕ) (d d₁ d₂ d₃ : List ℕ) → p + 12 ≤ length d →
     d₁ ≡ splice d p (syncBytes o) →
     d₂ ≡ splice d₁ (p + 4) (bytesOf o 4 code) →
-    d₃ ≡ splice d₂ (p + 8) (bytesOf o 4 (length body)) →
-    d₄ ≡ splice d₃ (p + 12) body →
-    d₄ ≡ splice d p (chunkBytes o code body)
-chunk-laid o code p body d d₁ d₂ d₃ d₄ h e₁ e₂ e₃ e₄ =
+    d₃ ≡ splice d₂ (p + 8) (bytesOf o 4 size) →
+    d₃ ≡ splice d p (headerBytes o code size)
+header-laid o code size p d d₁ d₂ d₃ h e₁ e₂ e₃ =
     let s = syncBytes o in
     let t = bytesOf o 4 code in
-    let z = bytesOf o 4 (length body) in
+    let z = bytesOf o 4 size in
     let n₁ : length s ≡ 4 = sync-length o in
     let n₂ : length (s ++ t) ≡ 8 = omega (arith, length-append s t, bytes-length o 4 code) in
-    let n₃ : length ((s ++ t) ++ z) ≡ 12 = omega (arith, length-append (s ++ t) z, bytes-length o 4 (length body)) in
-    let w : ((s ++ t) ++ z) ++ body ≡ chunkBytes o code body = simp append-assoc in
-    let f₂ : d₂ ≡ splice d p (s ++ t) = e₂ ∙ ap (λ (l : List ℕ). splice l (p + 4) t) e₁ ∙ splice-splice d p s t (p + 4) (omega arith) (omega arith) in
-    let f₃ : d₃ ≡ splice d p ((s ++ t) ++ z) = e₃ ∙ ap (λ (l : List ℕ). splice l (p + 8) z) f₂ ∙ splice-splice d p (s ++ t) z (p + 8) (omega arith) (omega arith) in
-    e₄
-    ∙ ap (λ (l : List ℕ). splice l (p + 12) body) f₃
-    ∙ splice-splice d p ((s ++ t) ++ z) body (p + 12) (omega arith) (omega arith)
-    ∙ ap (splice d p) w
+    let f₂ = laid-on p d d₁ d₂ s t (p + 4) (omega arith) (omega arith) e₁ e₂ in
+    laid-on p d d₂ d₃ (s ++ t) z (p + 8) (omega arith) (omega arith) f₂ e₃ ∙ ap (splice d p) (append-assoc s t z)
+
+-- what follows a header stands behind its size
+pub after-header : (o : Order) (code size : ℕ) (l : List ℕ) → headerBytes o code size ++ l ≡ syncBytes o ++ (bytesOf o 4 code ++ (bytesOf o 4 size ++ l))
+after-header o code size l = simp append-assoc
 
 -- ---- the answer
 

@@ -6,7 +6,7 @@ use mathlib.Core.List.{List, [], _∷_, _++_, map, flatten, append-assoc}
 use native.Mathlib.Omega.{arith}
 use native.Mathlib.Nat.{add-zero, zero-add}
 use lib.Dec.{eqb}
-use lib.ListN.{length, take, drop, length-append, length-drop, take-append-drop}
+use lib.ListN.{length, take, drop, length-append, length-drop}
 use lib.Seq.{take-at, drop-at, length-take-le}
 use Rattle.num.specs.Answer.{Answer, gives, refuses}
 use Rattle.num.specs.Choice.{pick}
@@ -26,7 +26,7 @@ use Rattle.writer.specs.Write.{splice, writeOf, writtenSaid}
 use Rattle.writer.specs.Records.{Record, chunkOf, recordsOf, Each, IsChunk, Taken, WellFormed, Typed, writtenAll, writeAll}
 use Rattle.writer.specs.declared.Written.{Written}
 use Rattle.writer.specs.declared.Written.the-variants.{Next, PastEnd, BadSize, Malformed, NoRoom}
-use Rattle.writer.proofs.Laws.{length-splice, splice-splice, taken-size, written}
+use Rattle.writer.proofs.Laws.{splice-nothing, length-splice, splice-splice, taken-size, written}
 
 -- ---- records are read back
 
@@ -72,9 +72,6 @@ order-back o r rs =
     ap orderOf (append-assoc (syncBytes o) y (writtenAll o rs)) ∙ order-front o (y ++ writtenAll o rs)
 
 -- ---- records are written one by one
-
-splice-nothing : (d : List ℕ) (place : ℕ) → splice d place [] ≡ d
-splice-nothing d place = rw add-zero (take-append-drop place d)
 
 one-by-one : (o : Order) (rs : List Record) (d : List ℕ) (place : ℕ) → Each (Taken o) rs → place + length (writtenAll o rs) ≤ length d →
     writeAll o rs d place ≡ record { slice = splice d place (writtenAll o rs); place = gives (place + length (writtenAll o rs)) }

@@ -6,8 +6,9 @@ use lib.Dec.{ltb}
 use lib.ListN.{length, take, drop}
 use Rattle.num.specs.Answer.{Answer, gives, refuses, then}
 use Rattle.num.specs.Choice.{pick}
+use Rattle.num.specs.Number.{bytesOf}
 use Rattle.num.specs.declared.Order.{Order}
-use Rattle.frame.specs.Place.{goodSize}
+use Rattle.frame.specs.Place.{syncBytes, goodSize}
 use Rattle.frame.specs.Frames.{chunkBytes}
 use Rattle.body.specs.Fault.{faultNumber}
 use Rattle.body.specs.Kind.{kindOf}
@@ -21,17 +22,28 @@ use Rattle.writer.specs.declared.Written.the-variants.{Next, PastEnd, Ba
 abbrev pub splice : List ℕ → ℕ → List ℕ → List ℕ
 splice d at vs = take at d ++ (vs ++ drop (at + length vs) d)
 
--- a record may be written: 32 where its size is not good, then 11 to 15 where a known type does not meet its row
-abbrev pub mayWrite : Order → ℕ → List ℕ → Answer (Unit {0})
-mayWrite o code body = pick (goodSize (length body)) (verdict o (kindOf code) body) (refuses 32)
+-- the front of a chunk: sync word, type, size
+abbrev pub headerBytes : Order → ℕ → ℕ → List ℕ
+headerBytes o code size = syncBytes o ++ (bytesOf o 4 code ++ bytesOf o 4 size)
+
+-- a record of so many bytes, with the verdict on its body, may be written: 32 where its size is not good, then 11 to 15
+abbrev pub mayBy : Answer (Unit {0}) → ℕ → Answer (Unit {0})
+mayBy judged size = pick (goodSize size) judged (refuses 32)
 
 -- In a slice of `whole` bytes: 2 where the place is past its end, then what the record is refused with, then 31 where the
 -- room left is under 12 + size; else the next place. A refusal leaves the place as it came.
-abbrev pub writeOf : Order → ℕ → List ℕ → ℕ → ℕ → Answer ℕ
-writeOf o code body whole place =
+abbrev pub writeBy : Answer (Unit {0}) → ℕ → ℕ → ℕ → Answer ℕ
+writeBy judged size whole place =
     pick (ltb whole place) (refuses 2)
-    (then (mayWrite o code body)
-    (λ _. pick (ltb (whole - place) (12 + length body)) (refuses 31) (gives (place + 12 + length body))))
+    (then (mayBy judged size)
+    (λ _. pick (ltb (whole - place) (12 + size)) (refuses 31) (gives (place + 12 + size))))
+
+-- a known type has to meet its row
+abbrev pub mayWrite : Order → ℕ → List ℕ → Answer (Unit {0})
+mayWrite o code body = mayBy (verdict o (kindOf code) body) (length body)
+
+abbrev pub writeOf : Order → ℕ → List ℕ → ℕ → ℕ → Answer ℕ
+writeOf o code body whole place = writeBy (verdict o (kindOf code) body) (length body) whole place
 
 -- the bytes are laid where the answer gives a next place, and on a refusal the slice is as it was
 abbrev pub laidBy : Answer ℕ → List ℕ → ℕ → List ℕ → List ℕ

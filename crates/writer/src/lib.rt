@@ -1,10 +1,14 @@
 // The writer: a record, its type and its body, laid as a chunk at a place of a lent slice.
+mod data;
+pub mod patterns;
+pub mod shorts;
+
 ghost use mathlib.Core.Path.{_≡_};
 ghost use Prim.Native.Nat.{_+_, _≤_, _<_};
 ghost use lib.ListN.{length};
 ghost use Rattle.num.specs.Number.{bytesOf};
 ghost use Rattle.frame.specs.Frames.{chunkBytes};
-ghost use Rattle.writer.specs.Write.{splice, writeOf, writtenOut, writtenSaid, isGood};
+ghost use Rattle.writer.specs.Write.{splice, headerBytes, writeOf, writtenOut, writtenSaid, isGood};
 use body::fault::Checked;
 use body::fault::Fault;
 use num::Order;
@@ -52,16 +56,24 @@ fn put_word(order: Order, x: u32, out: &mut [u8], at: usize)
     put(&word, out, at)
 }
 
-// A whole chunk: sync word, type, size and body.
+// A header: sync word, type and size.
+fn put_header(order: Order, code: u32, size: u32, out: &mut [u8], place: usize)
+    requires { ⌜ place + 12 ≤ length (now out) ⌝ }
+    ensures { λ _. ⌜ now (out .exit) ≡ splice (now (out .entry)) place (headerBytes order code size) ⌝ }
+{
+    put_word(order, frame::SYNC, out, place);
+    put_word(order, code, out, place + 4);
+    put_word(order, size, out, place + 8);
+}
+
+// A whole chunk: header and body.
 fn put_chunk(order: Order, code: u32, body: &[u8], out: &mut [u8], place: usize)
     requires { ⌜ place + 12 + length (now body) ≤ length (now out) ⌝ }
     requires { ⌜ length (now body) < 4294967296 ⌝ }
     ensures { λ _. ⌜ now (out .exit) ≡ splice (now (out .entry)) place (chunkBytes order code (now (body .entry))) ⌝ }
 {
     let size = body.len() as u32;
-    put_word(order, frame::SYNC, out, place);
-    put_word(order, code, out, place + 4);
-    put_word(order, size, out, place + 8);
+    put_header(order, code, size, out, place);
     put(body, out, place + frame::HEADER)
 }
 

@@ -1,6 +1,10 @@
--- Sync word, type, size and body are laid one where the other ends, which is to lay them as one.
+-- The body is laid where the header ends, which is to lay them as one.
+use Prim.Native.Nat.{_+_}
+use mathlib.Core.Path.{_∙_, ap}
 use native.Mathlib.Omega.{arith}
-use Rattle.writer.proofs.Laws.{chunk-laid}
+use lib.ListN.{length}
+use Rattle.writer.specs.Write.{splice, headerBytes}
+use Rattle.writer.proofs.Laws.{laid-on, header-length, after-header}
 use borrow.Author.Needs.{needs}
 use Rattle.writer.proofs.put_chunk.Statement.{statement}
 use Rattle.writer.proofs.put_chunk.Tie as tie
@@ -8,20 +12,8 @@ use Rattle.writer.proofs.put_chunk.Tie as tie
 cast-size : tie.Need-cast-size
 cast-size c = search needs
 
-put-word-requires : tie.Need-put-word-requires
-put-word-requires c κs = search needs
-
-add-put-word : tie.Need-add-put-word
-add-put-word c = search needs
-
-put-word-requires-2 : tie.Need-put-word-requires-2
-put-word-requires-2 c κs = search needs
-
-add-put-word-2 : tie.Need-add-put-word-2
-add-put-word-2 c = search needs
-
-put-word-requires-3 : tie.Need-put-word-requires-3
-put-word-requires-3 c κs = search needs
+put-header-requires : tie.Need-put-header-requires
+put-header-requires c κs = search needs
 
 add-put : tie.Need-add-put
 add-put c = search needs
@@ -34,23 +26,14 @@ same-length c = search needs
 
 returns : tie.Need-returns
 returns c =
-    let b = c .before .before .before .before .before .before in
-    let e = b .before .before .before .before .before .before .before .before in
+    let e = c .before .before .before .before .before .before in
     let a = e .before .before .before .before .args in
-    chunk-laid (a .order) (a .code) (a .place) (a .body .now) (a .out .now) _ _ _ _ (omega arith) (e .put-word .ensures)
-    (b .before .before .before .before .put-word2 .ensures) (b .put-word3 .ensures) (c .before .before .put .ensures)
+    let n = length (a .body .now) in
+    let h = headerBytes (a .order) (a .code) n in
+    let m = header-length (a .order) (a .code) n in
+    laid-on (a .place) (a .out .now) _ _ h (a .body .now) (a .place + 12) (omega arith) (omega arith) (e .put-header .ensures) (c .before .before .put .ensures)
+    ∙ ap (splice (a .out .now) (a .place)) (after-header (a .order) (a .code) n (a .body .now))
 
 pub put-chunk-spec : {M : Type 1} → statement M
 put-chunk-spec =
-    tie.close
-    (tie.spec
-    cast-size
-    put-word-requires
-    add-put-word
-    put-word-requires-2
-    add-put-word-2
-    put-word-requires-3
-    add-put
-    put-requires
-    same-length
-    returns)
+    tie.close (tie.spec cast-size put-header-requires add-put put-requires same-length returns)

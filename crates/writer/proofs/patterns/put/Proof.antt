@@ -1,0 +1,75 @@
+-- As many stores as the pattern has bytes lay them.
+use mathlib.Core.Path.{ap, _∙_}
+use native.Mathlib.Nat.{add-zero}
+use native.Mathlib.Omega.{arith}
+use lib.ListN.{length-set}
+use Rattle.writer.specs.Write.{splice}
+use Rattle.writer.proofs.Runs.{stored-all}
+use borrow.Author.Needs.{needs}
+use Rattle.writer.proofs.patterns.put.Statement.{statement}
+use Rattle.writer.proofs.patterns.put.Tie as tie
+
+u32-bytes-requires : tie.Need-u32-bytes-requires
+u32-bytes-requires c κs = search needs
+
+array-read-out : tie.Need-array-read-out
+array-read-out c = search needs
+
+slice-write-out : tie.Need-slice-write-out
+slice-write-out c = search needs
+
+array-read-out-2 : tie.Need-array-read-out-2
+array-read-out-2 c = search needs
+
+add-out : tie.Need-add-out
+add-out c = search needs
+
+slice-write-out-2 : tie.Need-slice-write-out-2
+slice-write-out-2 c = simp length-set (omega arith)
+
+array-read-out-3 : tie.Need-array-read-out-3
+array-read-out-3 c = search needs
+
+add-out-2 : tie.Need-add-out-2
+add-out-2 c = search needs
+
+slice-write-out-3 : tie.Need-slice-write-out-3
+slice-write-out-3 c = simp length-set (omega arith)
+
+array-read-out-4 : tie.Need-array-read-out-4
+array-read-out-4 c = search needs
+
+add-out-3 : tie.Need-add-out-3
+add-out-3 c = search needs
+
+slice-write-out-4 : tie.Need-slice-write-out-4
+slice-write-out-4 c = simp length-set (omega arith)
+
+same-length : tie.Need-same-length
+same-length c = search needs
+
+returns : tie.Need-returns
+returns c =
+    let s = c .before .before in
+    let a = s .args in
+    let r = c .u32-bytes .result in
+    rw (add-zero (a .at)) at (stored-all 4 (a .out .now) (a .at) r (search needs) (omega arith)) ∙ ap (splice (a .out .now) (a .at)) (c .u32-bytes .ensures)
+
+pub put-spec : {M : Type 1} → statement M
+put-spec =
+    tie.close
+    (tie.spec
+    u32-bytes-requires
+    array-read-out
+    slice-write-out
+    array-read-out-2
+    add-out
+    slice-write-out-2
+    array-read-out-3
+    add-out-2
+    slice-write-out-3
+    array-read-out-4
+    add-out-3
+    slice-write-out-4
+    same-length
+    returns)

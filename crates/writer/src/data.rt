@@ -1,0 +1,49 @@
+// What the data kinds share: the answer, and the front of a chunk up to its samples.
+ghost use mathlib.Core.Path.{_≡_};
+ghost use mathlib.Core.List.{_++_};
+ghost use Prim.Native.Nat.{_+_, _*_, _≤_};
+ghost use lib.ListN.{length};
+ghost use Rattle.writer.specs.Data.{timeOf, wholeSamples};
+ghost use Rattle.writer.specs.Write.{splice, headerBytes, writeBy, writtenSaid};
+use crate::Written;
+use body::fault::Fault;
+use num::Order;
+
+// A header and a time.
+pub(crate) const FRONT: usize = 20;
+
+// The answer for `count` numbers of `wide` bytes, in samples of `unit` bytes, and a slice of `whole` bytes. The count is
+// tested before it is multiplied, so that no size overflows.
+pub(crate) fn answer(wide: usize, unit: usize, count: usize, whole: usize, place: usize) -> Written
+    requires { ⌜ (1 ≤ wide) × (wide ≤ 4) × (1 ≤ unit) ⌝ }
+    ensures { λ r. ⌜ writtenSaid r ≡ writeBy (wholeSamples unit (8 + count * wide)) (8 + count * wide) whole place ⌝ }
+{
+    if whole < place {
+        return Written::PastEnd;
+    }
+    if frame::LIMIT < count {
+        return Written::BadSize;
+    }
+    let rest = count * wide;
+    let size = 8 + rest;
+    if !frame::good_size(size) {
+        return Written::BadSize;
+    }
+    if rest % unit != 0 {
+        return Written::Malformed(Fault::Size);
+    }
+    if whole - place < frame::HEADER + size {
+        return Written::NoRoom;
+    }
+    Written::Next(place + frame::HEADER + size)
+}
+
+// The front of a data chunk: its header and its time.
+pub(crate) fn put_front(order: Order, code: u32, size: u32, time: i64, out: &mut [u8], place: usize)
+    requires { ⌜ place + 20 ≤ length (now out) ⌝ }
+    ensures { λ _. ⌜ now (out .exit) ≡ splice (now (out .entry)) place (headerBytes order code size ++ timeOf order time) ⌝ }
+{
+    crate::put_header(order, code, size, out, place);
+    let bytes = num::i64_bytes(order, time);
+    crate::put(&bytes, out, place + frame::HEADER)
+}
