@@ -1,5 +1,5 @@
 -- Laws of data bodies: numbers laid one after the other, and the answer by the size.
-use Prim.Native.Nat.{ℕ, _+_, _-_, _*_, _%_, _≤_, _<_}
+use Prim.Native.Nat.{ℕ, zero, suc, _+_, _-_, _*_, _/_, _%_, _≤_, _<_}
 use mathlib.Core.Path.{_≡_, refl, sym, ap, _∙_}
 use mathlib.Core.Bool.{Bool, true, false}
 use mathlib.Core.List.{List, [], _∷_, _++_, append-assoc, append-nil}
@@ -15,8 +15,10 @@ use mir.Syntax.{w64}
 use mir.Val.{ofZ}
 use Rattle.num.specs.Answer.{Answer, gives, refuses}
 use Rattle.num.specs.Choice.{pick, both}
+use Rattle.num.specs.Number.{unsigned, digits, bytesOf}
 use Rattle.num.specs.declared.Order.{Order}
-use Rattle.num.proofs.Laws.{elems, all-elems, bytes-length}
+use Rattle.num.specs.declared.Order.the-variants.{Little}
+use Rattle.num.proofs.Laws.{Bytes, cons-bytes, elems, all-elems, least-bytes, bytes-length, written-read}
 use Rattle.frame.specs.Place.{goodSize}
 use Rattle.frame.specs.Frames.{chunkBytes}
 use Rattle.body.specs.Samples.{timed}
@@ -49,6 +51,19 @@ stored-all k d at l e h =
     let n = ap length q in
     let z : at + 0 ≡ at = omega arith in
     stored-is d at 0 (elems 0 0 k l) (omega arith) ∙ rw (q, z)
+
+-- ---- a number turned to an order
+
+digits-bytes : (k n : ℕ) → Bytes (digits k n)
+digits-bytes zero n i = record { fits = omega arith }
+digits-bytes (suc k) n i = cons-bytes (digits k (n / 256)) (record { fits = omega arith }) (digits-bytes k (n / 256)) i
+
+-- the number that the little bytes of x are in an order has the bytes of x in that order as its own little bytes
+pub turned-bytes : (o : Order) (k x : ℕ) → bytesOf Little k (unsigned o (bytesOf Little k x)) ≡ bytesOf o k x
+turned-bytes o k x =
+    let l = bytesOf o k x in
+    let n : length l ≡ k = bytes-length o k x in
+    rw n at (written-read Little l (least-bytes o (digits k x) (digits-bytes k x)))
 
 -- ---- numbers one after the other, each of w bytes
 

@@ -10,12 +10,13 @@ ghost use Rattle.writer.specs.Write.{splice, writeOf, writtenOut, writte
 use crate::Written;
 use num::Order;
 
-// The four bytes of a pattern.
+// The four bytes of a pattern, which is turned to the order as a whole: so a compiler makes one store of them.
 fn put(order: Order, x: u32, out: &mut [u8], at: usize)
     requires { ⌜ at + 4 ≤ length (now out) ⌝ }
     ensures { λ _. ⌜ now (out .exit) ≡ splice (now (out .entry)) at (pattern order x) ⌝ }
 {
-    let bytes = num::u32_bytes(order, x);
+    let turned = num::u32_of(order, num::u32_bytes(Order::Little, x));
+    let bytes = num::u32_bytes(Order::Little, turned);
     out[at] = bytes[0];
     out[at + 1] = bytes[1];
     out[at + 2] = bytes[2];

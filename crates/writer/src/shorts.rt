@@ -10,12 +10,13 @@ ghost use Rattle.writer.specs.Write.{splice, writeOf, writtenOut, writte
 use crate::Written;
 use num::Order;
 
-// The two bytes of a number.
+// The two bytes of a number, which is turned to the order as a whole: so a compiler makes one store of them.
 fn put(order: Order, x: i16, out: &mut [u8], at: usize)
     requires { ⌜ at + 2 ≤ length (now out) ⌝ }
     ensures { λ _. ⌜ now (out .exit) ≡ splice (now (out .entry)) at (short order x) ⌝ }
 {
-    let bytes = num::i16_bytes(order, x);
+    let turned = num::u16_of(order, num::i16_bytes(Order::Little, x));
+    let bytes = num::u16_bytes(Order::Little, turned);
     out[at] = bytes[0];
     out[at + 1] = bytes[1];
 }

@@ -1,16 +1,22 @@
--- As many stores as the pattern has bytes lay them.
+-- The bytes of the turned pattern are its bytes in the order, and as many stores as there are of them lay them.
 use mathlib.Core.Path.{ap, _∙_}
 use native.Mathlib.Nat.{add-zero}
 use native.Mathlib.Omega.{arith}
 use lib.ListN.{length-set}
 use Rattle.writer.specs.Write.{splice}
-use Rattle.writer.proofs.Runs.{stored-all}
+use Rattle.writer.proofs.Runs.{stored-all, turned-bytes}
 use borrow.Author.Needs.{needs}
 use Rattle.writer.proofs.patterns.put.Statement.{statement}
 use Rattle.writer.proofs.patterns.put.Tie as tie
 
 u32-bytes-requires : tie.Need-u32-bytes-requires
 u32-bytes-requires c κs = search needs
+
+u32-of-requires : tie.Need-u32-of-requires
+u32-of-requires c κs = search needs
+
+u32-bytes-requires-2 : tie.Need-u32-bytes-requires-2
+u32-bytes-requires-2 c κs = search needs
 
 array-read-out : tie.Need-array-read-out
 array-read-out c = search needs
@@ -50,16 +56,18 @@ same-length c = search needs
 
 returns : tie.Need-returns
 returns c =
-    let s = c .before .before in
+    let s = c .before .before .before .before in
     let a = s .args in
-    let r = c .u32-bytes .result in
-    rw (add-zero (a .at)) at (stored-all 4 (a .out .now) (a .at) r (search needs) (omega arith)) ∙ ap (splice (a .out .now) (a .at)) (c .u32-bytes .ensures)
+    let turned = rw (c .before .u32-of .ensures, c .before .before .u32-bytes .ensures, turned-bytes (a .order) 4 (a .x)) at (c .u32-bytes2 .ensures) in
+    rw (add-zero (a .at)) at (stored-all 4 (a .out .now) (a .at) (c .u32-bytes2 .result) (search needs) (omega arith)) ∙ ap (splice (a .out .now) (a .at)) turned
 
 pub put-spec : {M : Type 1} → statement M
 put-spec =
     tie.close
     (tie.spec
     u32-bytes-requires
+    u32-of-requires
+    u32-bytes-requires-2
     array-read-out
     slice-write-out
     array-read-out-2

@@ -1,18 +1,25 @@
--- As many stores as the number has bytes lay them.
+-- The bytes of the turned number are its bytes in the order, and as many stores as there are of them lay them.
 use mathlib.Core.Path.{ap, _∙_}
 use native.Mathlib.Nat.{add-zero}
 use native.Mathlib.Omega.{arith}
 use lib.ListN.{length-set}
 use mir.Syntax.{w16}
+use mir.Val.{ofZ}
 use mir.ValLaws.{toZ-ofZ}
 use Rattle.writer.specs.Write.{splice}
-use Rattle.writer.proofs.Runs.{stored-all}
+use Rattle.writer.proofs.Runs.{stored-all, turned-bytes}
 use borrow.Author.Needs.{needs}
 use Rattle.writer.proofs.shorts.put.Statement.{statement}
 use Rattle.writer.proofs.shorts.put.Tie as tie
 
 i16-bytes-requires : tie.Need-i16-bytes-requires
 i16-bytes-requires c κs = search needs
+
+u16-of-requires : tie.Need-u16-of-requires
+u16-of-requires c κs = search needs
+
+u16-bytes-requires : tie.Need-u16-bytes-requires
+u16-bytes-requires c κs = search needs
 
 array-read-out : tie.Need-array-read-out
 array-read-out c = search needs
@@ -34,16 +41,18 @@ same-length c = search needs
 
 returns : tie.Need-returns
 returns c =
-    let s = c .before .before in
+    let s = c .before .before .before .before in
     let a = s .args in
-    let r = c .i16-bytes .result in
-    rw (add-zero (a .at)) at (stored-all 2 (a .out .now) (a .at) r (search needs) (omega arith)) ∙ ap (splice (a .out .now) (a .at)) (rw (toZ-ofZ w16 (a .x) (s .fits .x)) at (c .i16-bytes .ensures))
+    let turned = rw (c .before .u16-of .ensures, c .before .before .i16-bytes .ensures, toZ-ofZ w16 (a .x) (s .fits .x), turned-bytes (a .order) 2 (ofZ w16 (a .x))) at (c .u16-bytes .ensures) in
+    rw (add-zero (a .at)) at (stored-all 2 (a .out .now) (a .at) (c .u16-bytes .result) (search needs) (omega arith)) ∙ ap (splice (a .out .now) (a .at)) turned
 
 pub put-spec : {M : Type 1} → statement M
 put-spec =
     tie.close
     (tie.spec
     i16-bytes-requires
+    u16-of-requires
+    u16-bytes-requires
     array-read-out
     slice-write-out
     array-read-out-2
