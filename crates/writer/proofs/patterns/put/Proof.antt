@@ -1,8 +1,9 @@
 -- The bytes of the turned pattern are its bytes in the order, and as many stores as there are of them lay them.
-use mathlib.Core.Path.{ap, _∙_}
+use mathlib.Core.Path.{_≡_, ap, _∙_}
 use native.Mathlib.Nat.{add-zero}
 use native.Mathlib.Omega.{arith}
 use lib.ListN.{length-set}
+use Rattle.num.specs.Number.{unsigned}
 use Rattle.writer.specs.Write.{splice}
 use Rattle.writer.proofs.Runs.{stored-all, turned-bytes}
 use borrow.Author.Needs.{needs}
@@ -58,7 +59,8 @@ returns : tie.Need-returns
 returns c =
     let s = c .before .before .before .before in
     let a = s .args in
-    let turned = rw (c .before .u32-of .ensures, c .before .before .u32-bytes .ensures, turned-bytes (a .order) 4 (a .x)) at (c .u32-bytes2 .ensures) in
+    let value : c .before .u32-of .result ≡ unsigned (a .order) (c .before .before .u32-bytes .result) = c .before .u32-of .ensures in
+    let turned = rw (value, c .before .before .u32-bytes .ensures, turned-bytes (a .order) 4 (a .x)) at (c .u32-bytes2 .ensures) in
     rw (add-zero (a .at)) at (stored-all 4 (a .out .now) (a .at) (c .u32-bytes2 .result) (search needs) (omega arith)) ∙ ap (splice (a .out .now) (a .at)) turned
 
 pub put-spec : {M : Type 1} → statement M

@@ -1,11 +1,12 @@
 -- The bytes of the turned number are its bytes in the order, and as many stores as there are of them lay them.
-use mathlib.Core.Path.{ap, _∙_}
+use mathlib.Core.Path.{_≡_, ap, _∙_}
 use native.Mathlib.Nat.{add-zero}
 use native.Mathlib.Omega.{arith}
 use lib.ListN.{length-set}
 use mir.Syntax.{w16}
 use mir.Val.{ofZ}
 use mir.ValLaws.{toZ-ofZ}
+use Rattle.num.specs.Number.{unsigned}
 use Rattle.writer.specs.Write.{splice}
 use Rattle.writer.proofs.Runs.{stored-all, turned-bytes}
 use borrow.Author.Needs.{needs}
@@ -43,7 +44,8 @@ returns : tie.Need-returns
 returns c =
     let s = c .before .before .before .before in
     let a = s .args in
-    let turned = rw (c .before .u16-of .ensures, c .before .before .i16-bytes .ensures, toZ-ofZ w16 (a .x) (s .fits .x), turned-bytes (a .order) 2 (ofZ w16 (a .x))) at (c .u16-bytes .ensures) in
+    let value : c .before .u16-of .result ≡ unsigned (a .order) (c .before .before .i16-bytes .result) = c .before .u16-of .ensures in
+    let turned = rw (value, c .before .before .i16-bytes .ensures, toZ-ofZ w16 (a .x) (s .fits .x), turned-bytes (a .order) 2 (ofZ w16 (a .x))) at (c .u16-bytes .ensures) in
     rw (add-zero (a .at)) at (stored-all 2 (a .out .now) (a .at) (c .u16-bytes .result) (search needs) (omega arith)) ∙ ap (splice (a .out .now) (a .at)) turned
 
 pub put-spec : {M : Type 1} → statement M
