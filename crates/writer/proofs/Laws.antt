@@ -127,14 +127,17 @@ given-by (refuses k) false b n m e = let z : _≡_ {A = ℕ} 0 1 = cc in absurd 
 given-by (gives u) false true n m e = let z : _≡_ {A = ℕ} 0 1 = cc in absurd (omega arith)
 given-by (gives u) false false n m e = (refl, refl, refl)
 
--- a next place is given only where there is room
+-- a next place is given only where the record may be written and there is room
+pub next-given : (o : Order) (code : ℕ) (body : List ℕ) (whole place next : ℕ) → writeOf o code body whole place ≡ gives next →
+    (mayWrite o code body ≡ gives tt) × (place + 12 + length body ≤ whole)
+next-given o code body whole place next e =
+    let h = given-by (mayWrite o code body) (ltb whole place) (ltb (whole - place) (12 + length body)) (place + 12 + length body) next e in
+    (h .1, omega (arith, ltb-false whole place (h .0), ltb-false (whole - place) (12 + length body) (h .2)))
+
 room : (o : Order) (code : ℕ) (body : List ℕ) (whole place next : ℕ) → writeOf o code body whole place ≡ gives next → Room body whole place
 room o code body whole place next e =
-    let h = given-by (mayWrite o code body) (ltb whole place) (ltb (whole - place) (12 + length body)) (place + 12 + length body) next e in
-    record {
-      small = good-limit (length body) (taken-size o code body (h .1));
-      fits = omega (arith, ltb-false whole place (h .0), ltb-false (whole - place) (12 + length body) (h .2));
-    }
+    let h = next-given o code body whole place next e in
+    record { small = good-limit (length body) (taken-size o code body (h .0)); fits = h .1 }
 
 -- and is given where the record may be written and there is room
 pub written : (o : Order) (code : ℕ) (body : List ℕ) (whole place : ℕ) → mayWrite o code body ≡ gives tt → place + 12 + length body ≤ whole →

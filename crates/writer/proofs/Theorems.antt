@@ -22,23 +22,29 @@ use Rattle.frame.proofs.Laws.{starts-self, order-big, order-little}
 use Rattle.frame.proofs.Frames.{complete, chunk-shows, frames-nil, moves}
 use Rattle.frame.proofs.Theorems.{bytes-whole}
 use Rattle.body.specs.declared.fault.Fault.the-variants as F
-use Rattle.writer.specs.Write.{splice, writeOf, writtenSaid}
+use Rattle.writer.specs.Write.{splice, headerBytes, writeOf, writtenSaid}
 use Rattle.writer.specs.Records.{Record, chunkOf, recordsOf, Each, IsChunk, Taken, WellFormed, Typed, writtenAll, writeAll}
 use Rattle.writer.specs.declared.Written.{Written}
 use Rattle.writer.specs.declared.Written.the-variants.{Next, PastEnd, BadSize, Malformed, NoRoom}
-use Rattle.writer.proofs.Laws.{splice-nothing, length-splice, splice-splice, taken-size, written}
+use Rattle.writer.proofs.Laws.{splice-nothing, length-splice, splice-splice, header-length, taken-size, written}
 
 -- ---- records are read back
 
 pub chunk-length : (o : Order) (code : ℕ) (body : List ℕ) → length (chunkBytes o code body) ≡ 12 + length body
 chunk-length o code body = simp (length-append, bytes-length) (omega arith)
 
-body-back : (o : Order) (code : ℕ) (body ys : List ℕ) → take (length body) (drop 12 (chunkBytes o code body ++ ys)) ≡ body
-body-back o code body ys =
-    let h = syncBytes o ++ (bytesOf o 4 code ++ bytesOf o 4 (length body)) in
-    let n : length h ≡ 12 = simp (length-append, bytes-length) (omega arith) in
+pub behind-header : (o : Order) (code : ℕ) (body ys : List ℕ) → drop 12 (chunkBytes o code body ++ ys) ≡ body ++ ys
+behind-header o code body ys =
+    let h = headerBytes o code (length body) in
     let e : chunkBytes o code body ++ ys ≡ h ++ (body ++ ys) = simp append-assoc in
-    rw (e, drop-at h (body ++ ys) 12 n) (take-at body ys (length body) refl)
+    rw e (drop-at h (body ++ ys) 12 (header-length o code (length body)))
+
+body-back : (o : Order) (code : ℕ) (body ys : List ℕ) → take (length body) (drop 12 (chunkBytes o code body ++ ys)) ≡ body
+body-back o code body ys = rw (behind-header o code body ys) (take-at body ys (length body) refl)
+
+-- what is ahead of the place of a chunk that was laid
+pub ahead-of-laid : (d : List ℕ) (place : ℕ) (vs : List ℕ) → place ≤ length d → drop place (splice d place vs) ≡ vs ++ drop (place + length vs) d
+ahead-of-laid d place vs h = drop-at (take place d) (vs ++ drop (place + length vs) d) place (length-take-le place d h)
 
 -- a chunk at the front is the first frame, and the others are those of the rest
 front-back : (o : Order) (code : ℕ) (body ys : List ℕ) → code < 2 ^ 32 → goodSize (length body) ≡ true →

@@ -1,0 +1,1 @@
+// What is written is copied back: theorems over the writer and the samples, and no code.
