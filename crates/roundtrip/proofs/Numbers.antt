@@ -1,12 +1,12 @@
 -- The numbers of a data chunk, over the width: signed numbers of 16 bits, or 32-bit patterns of floats.
 use Prim.Native.Nat.{ℕ, zero, suc, _+_, _*_, _<_}
-use mathlib.Core.Path.{_≡_, refl, sym, ap, _∙_}
+use mathlib.Core.Path.{_≡_}
 use mathlib.Core.Bool.{Bool, true, false}
 use mathlib.Core.List.{List, [], _∷_, _++_}
 use native.Mathlib.Nat.{suc-mul}
 use native.Mathlib.Omega.{arith}
 use lib.IntN.{ℤ, pos}
-use lib.ListN.{length, getD, take, drop}
+use lib.ListN.{length, getD}
 use lib.Seq.{take-at, drop-append-add}
 use mir.Syntax.{w16, w32}
 use mir.Val.{SFits, Fits, ofZ}

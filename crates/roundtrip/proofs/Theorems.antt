@@ -2,7 +2,7 @@
 use Prim.Native.Nat.{ℕ, _+_, _-_, _*_, _/_, _^_, _≤_, _<_}
 use mathlib.Core.Path.{_≡_, refl, sym, ap, _∙_}
 use mathlib.Core.Bool.{Bool, true, false}
-use mathlib.Core.List.{List, [], _∷_, _++_, append-assoc}
+use mathlib.Core.List.{List, _++_, append-assoc}
 use native.Mathlib.Omega.{arith}
 use lib.IntN.{ℤ, pos}
 use lib.ListN.{length, getD, take, drop, length-append, List·getD-append}
@@ -26,7 +26,7 @@ use Rattle.body.specs.declared.kind.Kind.{Kind}
 use Rattle.body.specs.declared.kind.Kind.the-variants.{SSNC, SSNR, SFNC, SFNR, GSNC, GFNC}
 use Rattle.copy.specs.Samples.{placeOf, iOf, qOf, pairsOf, laid}
 use Rattle.copy.proofs.Laws.{length-pairs}
-use Rattle.effect.specs.Says.{Says, ok, unknown, bad, waits, ready}
+use Rattle.effect.specs.Says.{Says, ready}
 use Rattle.reader.specs.Item.{Item, end, skipped, unfinished, chunk}
 use Rattle.reader.specs.Step.{stepOf}
 use Rattle.reader.specs.declared.Cursor.{Cursor}
@@ -43,7 +43,7 @@ use Rattle.samples.proofs.Ready.{bytesIn, effect-ready}
 use Rattle.writer.specs.Data.{runOf, timeOf}
 use Rattle.writer.specs.Write.{mayWrite, writeOf, writtenOut}
 use Rattle.writer.proofs.Laws.{taken-size, next-given}
-use Rattle.writer.proofs.Runs.{run-length, body-length}
+use Rattle.writer.proofs.Runs.{body-length}
 use Rattle.writer.proofs.Theorems.{behind-header, ahead-of-laid}
 use Rattle.roundtrip.proofs.Numbers.{Number, none, bytesOne, valueAt, AllFit, bodyOf, one-length, numbers-back}
 use Rattle.roundtrip.proofs.Values.{values-same, reals-list, pairs-list, pair-at}

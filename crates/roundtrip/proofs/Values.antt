@@ -1,14 +1,13 @@
 -- Values of a layout: they look only at the numbers that lie inside, and which they are.
 use Prim.Native.Nat.{ℕ, zero, suc, _+_, _*_, _≤_, _<_}
-use mathlib.Core.Path.{_≡_, refl, sym, ap, _∙_}
+use mathlib.Core.Path.{_≡_, refl, sym}
 use mathlib.Core.Bool.{Bool, true, false}
-use mathlib.Core.List.{List, [], _∷_, _++_}
+use mathlib.Core.List.{List, [], _∷_}
 use native.Mathlib.Omega.{arith}
 use lib.Dec.{eqb, leb}
 use lib.ListN.{length, getD, take, List·getD-append}
 use lib.Seq.{take-suc, getD-append-add, append-snoc}
 use borrow.Author.Tests.{le-leb, leb-true, eqb-true, eqb-false}
-use Rattle.num.specs.Choice.{pick, both}
 use Rattle.copy.specs.Samples.{placeOf, iOf, qOf, pairsOf, realsOf, each, inside, pairsFit}
 use Rattle.copy.proofs.Laws.{length-pairs, pair-inside}
 use Rattle.samples.specs.Layout.{valuesOf}
