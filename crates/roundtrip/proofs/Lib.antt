@@ -1,4 +1,5 @@
 pub mod Numbers
 pub mod Values
 pub mod Theorems
+pub mod SixKinds
 pub mod Example

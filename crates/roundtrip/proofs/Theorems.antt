@@ -1,13 +1,13 @@
 -- The samples of a typed data record, read back ready, are the samples given: once over the order and the width.
-use Prim.Native.Nat.{ℕ, _+_, _-_, _*_, _/_, _^_, _≤_, _<_}
-use mathlib.Core.Path.{_≡_, refl, sym, ap, _∙_}
-use mathlib.Core.Bool.{Bool, true, false}
+use Prim.Native.Nat.{ℕ, _+_, _-_, _*_, _^_, _≤_, _<_}
+use mathlib.Core.Path.{_≡_, refl, sym, _∙_}
+use mathlib.Core.Bool.{Bool, true}
 use mathlib.Core.List.{List, _++_, append-assoc}
 use native.Mathlib.Omega.{arith}
-use lib.IntN.{ℤ, pos}
-use lib.ListN.{length, getD, take, drop, length-append, List·getD-append}
-use lib.Seq.{take-at, take-length, drop-at, drop-drop}
-use borrow.Author.Tests.{le-leb, lt-ltb}
+use lib.IntN.{ℤ}
+use lib.ListN.{length, getD, drop, length-append, List·getD-append}
+use lib.Seq.{take-at, drop-at, drop-drop}
+use borrow.Author.Tests.{le-leb}
 use mir.Syntax.{w64}
 use mir.Val.{ofZ}
 use Rattle.num.specs.Answer.{Answer, gives, refuses}
@@ -18,12 +18,8 @@ use Rattle.frame.specs.Frames.{chunkBytes}
 use Rattle.frame.specs.declared.At.{At}
 use Rattle.frame.specs.declared.At.the-variants.{Complete}
 use Rattle.frame.proofs.Frames.{chunk-shows}
-use Rattle.body.specs.Kind.{codeOf, kindOf, kindIn, known}
-use Rattle.body.specs.Groups.{isNumber}
+use Rattle.body.specs.Kind.{kindOf}
 use Rattle.body.specs.declared.data.Data.{Data}
-use Rattle.body.specs.declared.group.GroupPacking.{GroupPacking}
-use Rattle.body.specs.declared.kind.Kind.{Kind}
-use Rattle.body.specs.declared.kind.Kind.the-variants.{SSNC, SSNR, SFNC, SFNR, GSNC, GFNC}
 use Rattle.copy.specs.Samples.{placeOf, iOf, qOf, pairsOf, laid}
 use Rattle.copy.proofs.Laws.{length-pairs}
 use Rattle.effect.specs.Says.{Says, ready}
@@ -32,7 +28,7 @@ use Rattle.reader.specs.Step.{stepOf}
 use Rattle.reader.specs.declared.Cursor.{Cursor}
 use Rattle.reader.proofs.Laws.{chunk-size}
 use Rattle.state.specs.declared.State.{State}
-use Rattle.samples.specs.Layout.{shapeOf, layout, paired, real, member, numbers, valuesOf}
+use Rattle.samples.specs.Layout.{shapeOf, layout, numbers, valuesOf}
 use Rattle.samples.specs.Copy.{layoutIn, layoutBy, layoutAt, countOf, samplesAt, filled}
 use Rattle.samples.specs.Plan.{wide, lies}
 use Rattle.samples.specs.declared.Laid.the-variants as laid
@@ -46,7 +42,7 @@ use Rattle.writer.proofs.Laws.{taken-size, next-given}
 use Rattle.writer.proofs.Runs.{body-length}
 use Rattle.writer.proofs.Theorems.{behind-header, ahead-of-laid}
 use Rattle.roundtrip.proofs.Numbers.{Number, none, bytesOne, valueAt, AllFit, bodyOf, one-length, numbers-back}
-use Rattle.roundtrip.proofs.Values.{values-same, reals-list, pairs-list, pair-at}
+use Rattle.roundtrip.proofs.Values.{values-same, pair-at}
 
 -- The record of a time and some numbers, one that may be written, stands at the cursor's place of a stream.
 pub record Here (float : Bool) (o : Order) (s : List ℕ) (c : Cursor) (code : ℕ) (time : ℤ) (xs : List (Number float)) : Type 0 where
@@ -144,132 +140,34 @@ module _ (float : Bool) (o : Order) (s : List ℕ) (c : Cursor) (code : ℕ) (ti
       let n : countOf float o s c channel (length out) ≡ gives (numbers l) = count-by float o s c channel (length out) l e r in
       (n, copied-back channel out ∙ rw (n, e))
 
-  -- and pair j of them is its I, then its Q
-  pub pair-laid : (channel : ℕ) (out : List (Number float)) (l : Layout) → layoutAt float o s c channel ≡ gives l → l .pairs ≡ true → 2 * l .count ≤ length out →
-      (j : ℕ) → j < l .count →
-      let place : ℕ = placeOf (l .first) (l .step) j in
-      let left : List (Number float) = leftBy float o s c channel out in
+  -- and where they are pairs, pair j is its I, then its Q
+  pub pairs-laid : (channel : ℕ) (out : List (Number float)) (l : Layout) → layoutAt float o s c channel ≡ gives l → l .pairs ≡ true → 2 * l .count ≤ length out →
       (countOf float o s c channel (length out) ≡ gives (2 * l .count))
-      × (getD left (2 * j) (none float) ≡ getD xs (iOf (l .iq) place) (none float))
-      × (getD left (2 * j + 1) (none float) ≡ getD xs (qOf (l .iq) place) (none float))
-  pair-laid channel out l e q r j i =
+      × ((j : ℕ) → j < l .count →
+      (getD (leftBy float o s c channel out) (2 * j) (none float) ≡ getD xs (iOf (l .iq) (placeOf (l .first) (l .step) j)) (none float))
+      × (getD (leftBy float o s c channel out) (2 * j + 1) (none float) ≡ getD xs (qOf (l .iq) (placeOf (l .first) (l .step) j)) (none float)))
+  pairs-laid channel out l e q r =
       let value : ℕ → Number float = λ k. getD xs k (none float) in
       let ys = pairsOf value (l .iq) (l .first) (l .step) (l .count) in
       let n : length ys ≡ 2 * l .count = length-pairs value (l .iq) (l .first) (l .step) (l .count) in
-      let b = rw q at (laid-back channel out l e (rw q r)) in
-      let v = pair-at value (l .iq) (l .first) (l .step) (none float) (l .count) j i in (
+      let b = rw q at (laid-back channel out l e (rw q r)) in (
         b .0,
-        rw (b .1, List·getD-append ys (drop (length ys) out) (none float) (2 * j) (omega arith)) (v .0),
-        rw (b .1, List·getD-append ys (drop (length ys) out) (none float) (2 * j + 1) (omega arith)) (v .1),
+        λ j i.
+            let v = pair-at value (l .iq) (l .first) (l .step) (none float) (l .count) j i in (
+              rw (b .1, List·getD-append ys (drop (length ys) out) (none float) (2 * j) (omega arith)) (v .0),
+              rw (b .1, List·getD-append ys (drop (length ys) out) (none float) (2 * j + 1) (omega arith)) (v .1),
+            ),
       )
 
   -- a ready chunk has the layout of its kind, and as many samples as the numbers make
-  ready-layout : (p k size : ℕ) (d : Data) (channel : ℕ) → stepOf o s c .item ≡ gives (chunk p k size (ready d)) →
+  pub ready-layout : (p k size : ℕ) (d : Data) (channel : ℕ) → stepOf o s c .item ≡ gives (chunk p k size (ready d)) →
       layoutAt float o s c channel ≡ layout float (shapeOf (kindOf code)) channel (stepOf o s c .shown) d
   unfolding layoutAt
   ready-layout p k size d channel e = let q = chunk-is p k size (ready d) e .0 in rw (e, q)
 
-  ready-count : (p k size : ℕ) (d : Data) → stepOf o s c .item ≡ gives (chunk p k size (ready d)) → length xs * wide float ≡ d .samples * bytesIn (shapeOf (kindOf code))
+  pub ready-count : (p k size : ℕ) (d : Data) → stepOf o s c .item ≡ gives (chunk p k size (ready d)) → length xs * wide float ≡ d .samples * bytesIn (shapeOf (kindOf code))
   ready-count p k size d e =
       let t = stands o c p k size (ready d) s e in
       let q = chunk-is p k size (ready d) e in
       let r = rw (q .0) at (effect-ready o _ _ d (kindOf k) (t .said) .size) in
       omega (arith, q .1, r, chunk-size o s (c .place) k size (t .here), body-length (bytesOne float o) (wide float) (one-length float o) o time xs)
-
--- ---- by the kind, of either width
-
-abbrev pub realKind : Bool → Kind
-realKind true = SFNR
-realKind false = SSNR
-
-abbrev pub pairKind : Bool → Kind
-pairKind true = SFNC
-pairKind false = SSNC
-
-abbrev pub groupKind : Bool → Kind
-groupKind true = GFNC
-groupKind false = GSNC
-
--- their layouts, and how many numbers make so many samples
-real-layout : (float : Bool) (s : State) (d : Data) → layout float (shapeOf (kindOf (codeOf (realKind float)))) 0 s d ≡ gives (real d)
-unfolding shapeOf kindOf kindIn known
-real-layout true s d = refl
-real-layout false s d = refl
-
-pair-layout : (float : Bool) (s : State) (d : Data) → layout float (shapeOf (kindOf (codeOf (pairKind float)))) 0 s d ≡ gives (paired s d)
-unfolding shapeOf kindOf kindIn known
-pair-layout true s d = refl
-pair-layout false s d = refl
-
-group-layout : (float : Bool) (channel : ℕ) (s : State) (d : Data) → channel < s .group .n →
-    layout float (shapeOf (kindOf (codeOf (groupKind float)))) channel s d ≡ gives (member channel s d)
-unfolding shapeOf kindOf kindIn known
-group-layout true channel s d h = rw (lt-ltb channel (s .group .n) h)
-group-layout false channel s d h = rw (lt-ltb channel (s .group .n) h)
-
-real-count : (float : Bool) (n m : ℕ) → n * wide float ≡ m * bytesIn (shapeOf (kindOf (codeOf (realKind float)))) → n ≡ m
-unfolding shapeOf kindOf kindIn known
-real-count true n m e = omega arith
-real-count false n m e = omega arith
-
-pair-count : (float : Bool) (n m : ℕ) → n * wide float ≡ m * bytesIn (shapeOf (kindOf (codeOf (pairKind float)))) → n ≡ 2 * m
-unfolding shapeOf kindOf kindIn known
-pair-count true n m e = omega arith
-pair-count false n m e = omega arith
-
-group-count : (float : Bool) (n m : ℕ) → n * wide float ≡ m * bytesIn (shapeOf (kindOf (codeOf (groupKind float)))) → n ≡ 2 * m
-unfolding shapeOf kindOf kindIn known
-group-count true n m e = omega arith
-group-count false n m e = omega arith
-
-module _ (float : Bool) (o : Order) (s : List ℕ) (c : Cursor) (time : ℤ) (xs out : List (Number float)) (p k size : ℕ) (d : Data)
-    (e : stepOf o s c .item ≡ gives (chunk p k size (ready d))) where
-  -- SSNR and SFNR: the numbers given are the numbers copied.
-  pub reals-back : Here float o s c (codeOf (realKind float)) time xs → length xs ≤ length out →
-      (countOf float o s c 0 (length out) ≡ gives (length xs)) × (leftBy float o s c 0 out ≡ laid xs out)
-  reals-back h r =
-      let n : length xs ≡ d .samples = real-count float (length xs) (d .samples) (ready-count float o s c _ time xs h p k size d e) in
-      let l = ready-layout float o s c _ time xs h p k size d 0 e ∙ real-layout float (stepOf o s c .shown) d in
-      let b = laid-back float o s c _ time xs h 0 out (real d) l (omega arith) in
-      let v : valuesOf (λ k. getD xs k (none float)) (real d) ≡ xs = rw (← n) (reals-list xs (none float) (length xs) (omega arith) ∙ take-length xs) in
-      (b .0 ∙ ap gives (sym n), b .1 ∙ ap (λ ys. laid ys out) v)
-
-  -- SSNC and SFNC where I stands before Q: so too.
-  pub pairs-back : Here float o s c (codeOf (pairKind float)) time xs → stepOf o s c .shown .packing .value ≡ pos 1 → length xs ≤ length out →
-      (countOf float o s c 0 (length out) ≡ gives (length xs)) × (leftBy float o s c 0 out ≡ laid xs out)
-  pairs-back h iq r =
-      let n : length xs ≡ 2 * d .samples = pair-count float (length xs) (d .samples) (ready-count float o s c _ time xs h p k size d e) in
-      let l = ready-layout float o s c _ time xs h p k size d 0 e ∙ pair-layout float (stepOf o s c .shown) d in
-      let b = laid-back float o s c _ time xs h 0 out (paired (stepOf o s c .shown) d) l (omega arith) in
-      let t : take (2 * d .samples) xs ≡ xs = rw (← n) (take-length xs) in
-      let v : valuesOf (λ k. getD xs k (none float)) (paired (stepOf o s c .shown) d) ≡ xs = rw iq (pairs-list xs (none float) (d .samples) (omega arith) ∙ t) in
-      (b .0 ∙ ap gives (sym n), b .1 ∙ ap (λ ys. laid ys out) v)
-
-  -- SSNC and SFNC in any packing: pair j is given as its I, then its Q.
-  pub pair-back : Here float o s c (codeOf (pairKind float)) time xs → length xs ≤ length out → (j : ℕ) → j < d .samples →
-      let iq : Bool = isNumber 1 (stepOf o s c .shown .packing .value) in
-      (length xs ≡ 2 * d .samples)
-      × (getD (leftBy float o s c 0 out) (2 * j) (none float) ≡ getD xs (iOf iq j) (none float))
-      × (getD (leftBy float o s c 0 out) (2 * j + 1) (none float) ≡ getD xs (qOf iq j) (none float))
-  pair-back h r j i =
-      let n : length xs ≡ 2 * d .samples = pair-count float (length xs) (d .samples) (ready-count float o s c _ time xs h p k size d e) in
-      let l = ready-layout float o s c _ time xs h p k size d 0 e ∙ pair-layout float (stepOf o s c .shown) d in
-      let z : 0 + j * 1 ≡ j = omega arith in
-      let b = rw z at (pair-laid float o s c _ time xs h 0 out (paired (stepOf o s c .shown) d) l refl (omega arith) j i) in
-      (n, b .1, b .2)
-
-  -- GSNC and GFNC: a channel below n has P/n pairs, and its pair j is the one at offset + j · increment.
-  pub group-back : Here float o s c (codeOf (groupKind float)) time xs → (channel : ℕ) →
-      let g : GroupPacking = stepOf o s c .shown .group in
-      let each : ℕ = d .samples / g .n in
-      channel < g .n → 2 * each ≤ length out → (j : ℕ) → j < each →
-      let pair : ℕ = getD (g .offsets) channel 0 + j * g .increment in
-      (length xs ≡ 2 * d .samples)
-      × (countOf float o s c channel (length out) ≡ gives (2 * each))
-      × (getD (leftBy float o s c channel out) (2 * j) (none float) ≡ getD xs (iOf (g .iq) pair) (none float))
-      × (getD (leftBy float o s c channel out) (2 * j + 1) (none float) ≡ getD xs (qOf (g .iq) pair) (none float))
-  group-back h channel m r j i =
-      let n : length xs ≡ 2 * d .samples = group-count float (length xs) (d .samples) (ready-count float o s c _ time xs h p k size d e) in
-      let l = ready-layout float o s c _ time xs h p k size d channel e ∙ group-layout float channel (stepOf o s c .shown) d m in
-      let b = pair-laid float o s c _ time xs h channel out (member channel (stepOf o s c .shown) d) l refl r j i in
-      (n, b .0, b .1, b .2)
