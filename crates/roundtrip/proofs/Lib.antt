@@ -2,4 +2,5 @@ pub mod Numbers
 pub mod Values
 pub mod Theorems
 pub mod SixKinds
+pub mod Promises
 pub mod Example

@@ -75,10 +75,13 @@ by-item float channel shown (gives (skipped p n)) l e = let z : _≡_ {A = ℕ} 
 by-item float channel shown (gives (unfinished p n)) l e = let z : _≡_ {A = ℕ} 0 1 = cc in absurd (omega arith)
 by-item float channel shown (gives (chunk p code size says)) l e = (p, code, size, says, refl, e)
 
--- what the slice holds after a copying call
+-- what the slice holds after a copying call, where each number of the chunk is known by its place
+abbrev pub leftWith : (float : Bool) → Order → List ℕ → Cursor → ℕ → (ℕ → Number float) → List (Number float) → List (Number float)
+leftWith float o s c channel value out = filled (countOf float o s c channel (length out)) (layoutAt float o s c channel) value out
+
+-- as the call promises it: the numbers are those of the sample bytes
 abbrev pub leftBy : (float : Bool) → Order → List ℕ → Cursor → ℕ → List (Number float) → List (Number float)
-leftBy float o s c channel out =
-    filled (countOf float o s c channel (length out)) (layoutAt float o s c channel) (valueAt float o (samplesAt o s c)) out
+leftBy float o s c channel out = leftWith float o s c channel (valueAt float o (samplesAt o s c)) out
 
 count-by : (float : Bool) (o : Order) (s : List ℕ) (c : Cursor) (channel room : ℕ) (l : Layout) → layoutAt float o s c channel ≡ gives l → numbers l ≤ room →
     countOf float o s c channel room ≡ gives (numbers l)
@@ -127,9 +130,7 @@ module _ (float : Bool) (o : Order) (s : List ℕ) (c : Cursor) (code : ℕ) (ti
   filled-by channel out (refuses k) a e = refl
 
   -- What a copying call leaves in its slice is what it would leave with the given numbers in place of the bytes.
-  pub copied-back : (channel : ℕ) (out : List (Number float)) →
-      leftBy float o s c channel out
-      ≡ filled (countOf float o s c channel (length out)) (layoutAt float o s c channel) (λ k. getD xs k (none float)) out
+  pub copied-back : (channel : ℕ) (out : List (Number float)) → leftBy float o s c channel out ≡ leftWith float o s c channel (λ k. getD xs k (none float)) out
   copied-back channel out = filled-by channel out (countOf float o s c channel (length out)) (layoutAt float o s c channel) refl
 
   -- where a layout is given and the slice has room, its numbers are copied
