@@ -1,6 +1,7 @@
 //! Putting streams together, right or wrong: nothing is checked here.
 
-use crate::kind::Kind;
+use crate::body::{Body, Level};
+use crate::kind::{Kind, Width};
 use crate::order::Order;
 
 /// The bytes of a body, number by number.
@@ -60,6 +61,63 @@ impl Fields {
 
     pub fn bytes(self) -> Vec<u8> {
         self.bytes
+    }
+}
+
+impl Body<'_> {
+    /// The body of this kind that holds these values, in another order or the
+    /// same one.
+    pub fn bytes(&self, kind: Kind, from: Order, to: Order) -> Vec<u8> {
+        let fields = Fields::new(to);
+        match *self {
+            Body::Data {
+                form,
+                time,
+                samples,
+            } => {
+                let fields = fields.long(time);
+                match form.width {
+                    Width::Short => samples
+                        .chunks_exact(2)
+                        .fold(fields, |f, b| f.short(from.i16([b[0], b[1]]))),
+                    Width::Float => samples
+                        .chunks_exact(4)
+                        .fold(fields, |f, b| f.word(from.u32([b[0], b[1], b[2], b[3]]))),
+                }
+            }
+            Body::SinglePacking(packing) => fields.word(packing.number()),
+            Body::SampleRate(number)
+            | Body::GroupBandwidth(number)
+            | Body::CentreFrequency(number) => fields.long(number),
+            Body::Bandwidth { bandwidth, offset } => match kind {
+                Kind::Bw => fields.long(bandwidth),
+                _ => fields.long(bandwidth).long(offset),
+            },
+            Body::Level(
+                Level::FullScale(pattern)
+                | Level::TotalGain(pattern)
+                | Level::FloatFullScale(pattern),
+            ) => fields.word(pattern),
+            Body::GroupPacking(layout) => fields
+                .word(layout.channels() as u32)
+                .word(layout.packing.number())
+                .word(layout.increment)
+                .words(layout.offsets.values()),
+            Body::GroupFrequencies(list) => {
+                fields.word(list.channels() as u32).longs(list.values())
+            }
+            Body::GroupGains(list) => fields.word(list.channels() as u32).words(list.values()),
+            Body::FileStart(number) => fields.int(number),
+            Body::HeaderEnd | Body::Discontinuity => fields,
+            Body::Text(text) => {
+                let padding = text.len().next_multiple_of(4) - text.len();
+                fields
+                    .word(text.len() as u32)
+                    .raw(text.as_bytes())
+                    .raw(&[0; 3][..padding])
+            }
+        }
+        .bytes()
     }
 }
 

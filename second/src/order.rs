@@ -45,6 +45,13 @@ impl Order {
         }
     }
 
+    pub const fn i16(self, bytes: [u8; 2]) -> i16 {
+        match self {
+            Order::Big => i16::from_be_bytes(bytes),
+            Order::Little => i16::from_le_bytes(bytes),
+        }
+    }
+
     pub const fn i32(self, bytes: [u8; 4]) -> i32 {
         self.u32(bytes) as i32
     }

@@ -4,6 +4,7 @@
 
 use std::collections::BTreeMap;
 
+use crate::check::check;
 use crate::dump::dump;
 use crate::filecheck::check_file;
 use crate::list::{line, list, MOST_BYTES};
@@ -18,8 +19,19 @@ use crate::write::write_at;
 const CHANNELS: [usize; 4] = [0, 1, 15, 16];
 const ROOMS: [usize; 3] = [0, 6, 64];
 
-/// The length of the output written into.
+/// The length of the output written into, from bodies and from values.
 const OUT_BYTES: usize = 512;
+const VALUES_BYTES: usize = 2048;
+
+/// Longer bodies aren't written from their values.
+const MOST_BODY: usize = 1032;
+
+/// The order a stream is read in, and the one it is written in.
+const ORDERS: [(&str, Order, Order); 3] = [
+    ("big", Order::Big, Order::Big),
+    ("little", Order::Little, Order::Little),
+    ("turned", Order::Big, Order::Little),
+];
 
 /// A running digest of numbers.
 struct Digest(u64);
@@ -157,13 +169,13 @@ pub fn trial(stream: &[u8], met: &mut Met) -> String {
         let digest = copies(order, stream, met);
         line(&mut text, format_args!("copies {} {digest}", order.name()));
     }
-    for (name, read, written) in [
-        ("big", Order::Big, Order::Big),
-        ("little", Order::Little, Order::Little),
-        ("turned", Order::Big, Order::Little),
-    ] {
+    for (name, read, written) in ORDERS {
         let digest = writes(read, written, stream, met);
         line(&mut text, format_args!("writes {name} {digest}"));
+    }
+    for (name, read, written) in ORDERS {
+        let digest = values(read, written, stream);
+        line(&mut text, format_args!("values {name} {digest}"));
     }
     text
 }
@@ -244,6 +256,42 @@ fn writes(read: Order, written: Order, stream: &[u8], met: &mut Met) -> u64 {
         put(body, OUT_BYTES + 1);
         put(less, place);
         place = put(body, place);
+    }
+    for byte in out {
+        digest.add(byte.into());
+    }
+    digest.0
+}
+
+/// Each well-formed chunk of a known kind written anew from its values.
+fn values(read: Order, written: Order, stream: &[u8]) -> u64 {
+    let mut digest = Digest::new();
+    let mut out = [0xAA; VALUES_BYTES];
+    let mut place = 0;
+    for item in Reader::new(read, stream) {
+        let Item::Chunk {
+            frame,
+            kind: Some(kind),
+            ..
+        } = item
+        else {
+            continue;
+        };
+        let body = frame.body(stream);
+        let Ok(held) = check(read, kind, body) else {
+            continue;
+        };
+        if body.len() > MOST_BODY {
+            continue;
+        }
+        let body = held.bytes(kind, read, written);
+        match write_at(written, frame.code, &body, &mut out, place) {
+            Ok(next) => {
+                digest.add(next as u64);
+                place = next;
+            }
+            Err(refusal) => digest.add_refusal(refusal.number()),
+        }
     }
     for byte in out {
         digest.add(byte.into());

@@ -4,6 +4,7 @@
 mod answer;
 mod check;
 mod copies;
+mod values;
 mod writes;
 
 use num::Order;
@@ -21,6 +22,7 @@ fn trial(s: &[u8]) {
     check::both(s);
     copies::both(s);
     writes::both(s);
+    values::both(s);
 }
 
 // The next stream into the front of buf; how many bytes came.

@@ -8,9 +8,9 @@ use reader::Item;
 use writer::Written;
 
 // Where the next record goes, and the digest so far.
-struct Run {
-    place: usize,
-    digest: u64,
+pub(crate) struct Run {
+    pub(crate) place: usize,
+    pub(crate) digest: u64,
 }
 
 // Read and written in one order, and read in one and written in the other.
@@ -36,14 +36,18 @@ fn stream(from: Order, to: Order, s: &[u8]) -> u64 {
         let next = stepped.cursor;
         cursor = next;
     }
-    held(&out, run.digest)
+    whole(&out, run.digest)
+}
+
+fn whole(out: &[u8; 512], digest: u64) -> u64 {
+    held(out, digest)
 }
 
 // The digest of what a slice holds.
-fn held(out: &[u8; 512], digest: u64) -> u64 {
+pub(crate) fn held(out: &[u8], digest: u64) -> u64 {
     let mut sum = digest;
     let mut i = 0;
-    while i < 512 {
+    while i < out.len() {
         sum = more(sum, wide(out[i]));
         i += 1;
     }
@@ -55,7 +59,7 @@ fn wide(x: u8) -> u64 {
 }
 
 // The bytes of a body that stands in s; none where it does not.
-fn body(s: &[u8], place: usize, size: usize) -> &[u8] {
+pub(crate) fn body(s: &[u8], place: usize, size: usize) -> &[u8] {
     if s.len() < 12 {
         return &s[..0];
     }
@@ -129,9 +133,14 @@ fn without_last(body: &[u8]) -> &[u8] {
 
 // One call of the writer.
 fn one(order: Order, code: u32, body: &[u8], out: &mut [u8], run: Run) -> Run {
+    told(writer::write(order, code, body, out, run.place), run)
+}
+
+// What a call answered: the next record goes where it says, or stays.
+pub(crate) fn told(written: Written, run: Run) -> Run {
     let place = run.place;
     let digest = run.digest;
-    match writer::write(order, code, body, out, place) {
+    match written {
         Written::Next(next) => Run {
             place: next,
             digest: more(digest, next as u64),

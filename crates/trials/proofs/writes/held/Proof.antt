@@ -1,20 +1,21 @@
 -- Each byte of the slice is taken once.
+use lib.ListN.{length}
 use Prim.Native.Nat.{_-_, _≤_}
 use borrow.Author.Needs.{needs}
 use Rattle.trials.proofs.writes.held.Statement.{statement}
 use Rattle.trials.proofs.writes.held.Tie as tie
 
 abbrev Inv-loop : tie.InvT-loop
-Inv-loop out digest sum₀ i₀ sum i = i ≤ 512
+Inv-loop out digest sum₀ i₀ sum i = i ≤ length out
 
 abbrev μ-loop : tie.MeasureT-loop
-μ-loop out digest sum₀ i₀ sum i = 512 - i
+μ-loop out digest sum₀ i₀ sum i = length out - i
 
 loop-holds : tie.Need-loop-holds Inv-loop μ-loop
 loop-holds c = search needs
 
-element-copy-out-wide : tie.Need-element-copy-out-wide Inv-loop μ-loop
-element-copy-out-wide c = search needs
+shared-slice-read-wide : tie.Need-shared-slice-read-wide Inv-loop μ-loop
+shared-slice-read-wide c = search needs
 
 wide-requires : tie.Need-wide-requires Inv-loop μ-loop
 wide-requires c κs = search needs
@@ -41,7 +42,7 @@ held-spec =
     Inv-loop
     μ-loop
     loop-holds
-    element-copy-out-wide
+    shared-slice-read-wide
     wide-requires
     more-requires
     add-i
