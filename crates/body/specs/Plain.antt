@@ -1,6 +1,6 @@
 -- The kinds with no value for the state: EOFH and IQDC, which are empty, and TEXT.
 use Prim.Native.Nat.{ℕ, _+_, _*_, _/_}
-use mathlib.Core.Bool.{Bool, true, false}
+use mathlib.Core.Bool.{Bool, true}
 use mathlib.Core.List.{List, [], _∷_}
 use lib.Dec.{eqb, ltb}
 use lib.IntN.{pos, natAbs}

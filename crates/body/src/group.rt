@@ -9,7 +9,7 @@ ghost use mir.Val.{toZ};
 ghost use Rattle.num.specs.Answer.{gives, refuses};
 ghost use Rattle.body.specs.Fault.{faultNumber};
 ghost use Rattle.body.specs.Lists.{sixteen};
-ghost use Rattle.body.specs.Groups.{Read, noPacking, noHertz, noGains, countSaid, InCount, listed, offsetAt, hertzAt, gainAt, offsetsOk, gainsOk, headOk, packed, tuned, amplified, giqp, gcf, grg};
+ghost use Rattle.body.specs.Groups.{Read, noPacking, noHertz, noGains, countSaid, InCount, listed, offsetAt, hertzAt, gainAt, offsetsOk, gainsOk, headOk, packed, amplified, giqp, gcf, grg};
 use crate::fault::Checked;
 use crate::fault::Fault;
 use num::Order;

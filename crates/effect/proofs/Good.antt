@@ -1,23 +1,22 @@
 -- No chunk leaves a state that is not good, so number 3 is never given for a state that the reader made.
-use Prim.Native.Nat.{ℕ, suc, _+_, _*_, _≤_, _<_, _^_}
+use Prim.Native.Nat.{ℕ, _+_, _*_, _<_, _^_}
 use mathlib.Core.Path.{_≡_, refl, sym, ap, _∙_}
 use mathlib.Core.Bool.{Bool, true, false}
 use mathlib.Core.List.{List}
 use native.Mathlib.Omega.{arith}
-use lib.Dec.{eqb, ltb}
+use lib.Dec.{eqb}
 use lib.Ieee.{Float, binary32, ofBits, lt}
 use lib.IntN.{ℤ, pos, negsuc, natAbs}
 use lib.Signed.{leZ}
-use mir.Syntax.{w32}
 use borrow.Author.Tests.{lt-ltb, ne-eqb}
 use Rattle.num.specs.Answer.{Answer, gives, refuses, then}
-use Rattle.num.specs.Choice.{pick, both, either}
+use Rattle.num.specs.Choice.{both, either}
 use Rattle.num.specs.Number.{unsignedAt}
 use Rattle.num.specs.declared.Order.{Order}
 use Rattle.body.specs.Check.{int32, int64, allowed}
 use Rattle.body.specs.Numbers.{siqp, sr, bw, cf, bwof}
 use Rattle.body.specs.Levels.{isFinite, finite32, dbfs, dbtg, ffs}
-use Rattle.body.specs.Lists.{each, sixteen}
+use Rattle.body.specs.Lists.{sixteen}
 use Rattle.body.specs.Groups.{given, noPacking, noHertz, noGains, isNumber, headOk, offsetAt, offsetsOk, hertzAt, gainAt, gainsOk, packed, tuned, amplified, giqp, gcf, grg}
 use Rattle.body.specs.declared.kind.Kind.{Kind}
 use Rattle.body.specs.declared.kind.Kind.the-variants.{SSNC, SSNR, SFNC, SFNR, GSNC, GFNC, SIQP, SR, BW, GCBW, BWOF, CF, DBFS, DBTG, FFS, GIQP, GCF, GRG, SOFH, EOFH, IQDC, TEXT, Unknown}
@@ -30,7 +29,7 @@ use Rattle.body.specs.declared.group.GroupGains.{GroupGains}
 use Rattle.body.proofs.Laws.{both-true}
 use Rattle.body.proofs.Lists.{each-at}
 use Rattle.body.proofs.Allowed.{sized-gives, finite-gives, then-gives, listed-gives, small32}
-use Rattle.state.specs.Good.{zeroOrOne, anyNumber, scale, offset, nothing, isZero, isPlusZero, goodNumber, goodBand, goodLevel, goodHead, goodList, goodGroup, goodFrequencies, goodGains, goodState}
+use Rattle.state.specs.Good.{zeroOrOne, anyNumber, scale, offset, nothing, isZero, isPlusZero, goodNumber, goodBand, goodLevel, goodList, goodGroup, goodFrequencies, goodGains, goodState}
 use Rattle.state.specs.declared.State.{State}
 use Rattle.state.proofs.Laws.{with-packing-good, with-rate-good, with-band-good, with-group-band-good, with-centre-good, with-full-scale-good, with-total-gain-good, with-float-scale-good, with-group-good, with-frequencies-good, with-gains-good, with-mark-good, no-number-good, no-band-good, no-level-good, no-packing-good, no-hertz-good, no-gains-good, upto-good}
 use Rattle.effect.specs.Effect.{held, centred, banded, amount, levelled, effect}

@@ -1,7 +1,7 @@
 -- When a data chunk is ready, and what it shows.
 use Prim.Native.Nat.{ℕ}
 use mathlib.Core.Bool.{Bool, true, false}
-use lib.Dec.{eqb, ltb}
+use lib.Dec.{eqb}
 use Rattle.num.specs.Answer.{Answer, gives, refuses}
 use Rattle.num.specs.Choice.{pick}
 use Rattle.body.specs.Groups.{noHertz, noGains}

@@ -1,6 +1,5 @@
 // Data chunks: whether they are ready, and what they show.
 ghost use mathlib.Core.Path.{_≡_};
-ghost use lib.Dec.{ltb};
 ghost use Rattle.body.specs.Samples.{dataSaid};
 ghost use Rattle.effect.specs.Says.{verdictSaid};
 ghost use Rattle.effect.specs.Ready.{dataSays, covering, isReady, hertzOf, gainsOf, inGroup};

@@ -9,7 +9,7 @@ use borrow.Author.Tests.{ltb-true, le-leb, lt-leb}
 use lib.ListN.{length, getD, take, drop, length-reverse}
 use lib.Seq.{drop-cons, take-all}
 use lib.IntN.{ℤ, pos, negsuc}
-use lib.Signed.{ltZ, mag}
+use lib.Signed.{ltZ}
 use mir.Syntax.{Width, w8, w16, w32, w64, w128}
 use mir.Val.{toZ, ofZ, SFits, Fits, bits, hbits, bytes}
 use mir.ValLaws.{toZ-ofZ, toZ-pos, ofZ-fits, pow-bits}
