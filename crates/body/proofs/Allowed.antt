@@ -16,10 +16,11 @@ use borrow.Author.Tests.{leb-true, ltb-true, ltb-false}
 use Rattle.num.specs.Answer.{Answer, gives, refuses, then}
 use Rattle.num.specs.Choice.{pick, both}
 use Rattle.num.specs.declared.Order.{Order}
+use Rattle.num.proofs.Tests.{both-true}
 use Rattle.body.specs.Check.{int32, sized, allowed}
 use Rattle.body.specs.Levels.{isFinite, finite32, float32}
 use Rattle.body.specs.Groups.{counted, listed}
-use Rattle.body.proofs.Laws.{both-true, negative32}
+use Rattle.body.proofs.Laws.{negative32}
 
 apart : {A B : Type 0} (a : A) (n : ℕ) → _≡_ {A = Answer A} (refuses n) (gives a) → B
 apart a n e = let z : _≡_ {A = ℕ} 0 1 = cc in absurd (omega arith)

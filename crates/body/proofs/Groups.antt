@@ -17,6 +17,7 @@ use Rattle.num.specs.Answer.{Answer, gives, refuses, then}
 use Rattle.num.specs.Choice.{pick, both, either}
 use Rattle.num.specs.Number.{unsignedAt}
 use Rattle.num.specs.declared.Order.{Order}
+use Rattle.num.proofs.Tests.{both-true}
 use Rattle.body.specs.Check.{int32}
 use Rattle.body.specs.Fault.{faultNumber, checkedSaid}
 use Rattle.body.specs.Lists.{sixteen}
@@ -25,7 +26,7 @@ use Rattle.body.specs.declared.fault.Fault.{Fault}
 use Rattle.body.specs.Verdict.{seen}
 use Rattle.body.specs.declared.fault.Checked.{Checked}
 use Rattle.body.specs.declared.fault.Checked.the-variants.{Good, Malformed}
-use Rattle.body.proofs.Laws.{both-true, negative32, is-pattern, natural-pattern}
+use Rattle.body.proofs.Laws.{negative32, is-pattern, natural-pattern}
 
 pub product : (a b : ℕ) → a ≤ 8 → b ≤ 16 → a * b ≤ 128
 product a b ha hb = le-trans (mul-le-mul-right b ha) (mul-le-mul-left 8 hb)

@@ -9,13 +9,8 @@ use lib.Signed.{leZ, ltZ, mag}
 use mir.Syntax.{w32, w64}
 use mir.Val.{SFits, toZ}
 use mir.ValLaws.{toZ-pos}
-use Rattle.num.specs.Choice.{both}
 use Rattle.body.specs.Groups.{isNumber}
 use borrow.Author.Tests.{le-leb, lt-leb, le-ltb, ne-eqb, ltb-true, ltb-false}
-
-pub both-true : (a b : Bool) → both a b ≡ true → (a ≡ true) × (b ≡ true)
-both-true true b h = (refl, h)
-both-true false b h = let z : _≡_ {A = ℕ} 0 1 = cc in absurd (omega arith)
 
 leb-ltb : (a b : ℕ) (t : Bool) → ltb b a ≡ t → leb a b ≡ not t
 leb-ltb a b true h = lt-leb a b (ltb-true b a h)

@@ -1,43 +1,11 @@
--- Laws of lists of up to 16 values: a test of each, and places filled one by one.
+-- Laws of lists of up to 16 values: places filled one by one.
 use Prim.Native.Nat.{ℕ, zero, suc, _+_, _<_, _≤_}
 use mathlib.Core.Path.{_≡_, refl, ap}
-use mathlib.Core.Bool.{Bool, true, false}
 use mathlib.Core.List.{List}
-use native.Mathlib.Numerals.{add-one}
 use native.Mathlib.Omega.{arith}
-use lib.Dec.{eqb}
 use lib.ListN.{length, set, replicate}
-use borrow.Author.Tests.{lt-ltb, le-ltb, eqb-true, eqb-false}
-use Rattle.num.specs.Choice.{both}
-use Rattle.body.specs.Lists.{each, upto}
-
-both-false : (b : Bool) → both b false ≡ false
-both-false true = refl
-both-false false = refl
-
-module _ (p : ℕ → Bool) where
-  pub each-next : (c : ℕ) → each p c ≡ true → p c ≡ true → each p (c + 1) ≡ true
-  unfolding each
-  each-next c h q = rw (add-one c, h) q
-
-  stop-by : (m c : ℕ) (b : Bool) → eqb c m ≡ b → c < suc m → p c ≡ false → (c < m → each p m ≡ false) → both (each p m) (p m) ≡ false
-  stop-by m c true e h q r = let i : c ≡ m = eqb-true c m e in rw (← i, q) (both-false (each p c))
-  stop-by m c false e h q r = let n = eqb-false c m e in rw (r (omega arith))
-
-  -- one that fails decides
-  pub each-stop : (n c : ℕ) → c < n → p c ≡ false → each p n ≡ false
-  unfolding each
-  each-stop zero c h q = absurd (omega arith)
-  each-stop (suc m) c h q = stop-by m c (eqb c m) refl h q (λ k. each-stop m c k q)
-
-  at-by : (n c : ℕ) (b : Bool) → p c ≡ b → each p n ≡ true → c < n → p c ≡ true
-  at-by n c true e h k = e
-  at-by n c false e h k =
-      let q = each-stop n c k e in
-      let z : _≡_ {A = ℕ} 0 1 = cc in absurd (omega arith)
-
-  pub each-at : (n c : ℕ) → each p n ≡ true → c < n → p c ≡ true
-  each-at n c h k = at-by n c (p c) refl h k
+use borrow.Author.Tests.{lt-ltb, le-ltb}
+use Rattle.body.specs.Lists.{upto}
 
 module _ {A : Type 0} (f : ℕ → A) (d : A) where
   pub upto-none : (i k : ℕ) → replicate k d ≡ upto f d 0 i k

@@ -9,12 +9,12 @@ use lib.IntN.{ℤ, pos, negsuc, natAbs}
 use lib.ListN.{length, replicate}
 use lib.Signed.{leZ}
 use Rattle.num.specs.Answer.{Answer, gives, refuses}
-use Rattle.num.specs.Choice.{pick, both, either}
+use Rattle.num.specs.Choice.{pick, both, either, each}
 use Rattle.num.specs.declared.Order.{Order}
 use Rattle.body.specs.Check.{int32, int64, sized, allowed}
 use Rattle.body.specs.Fault.{faultNumber, checkedSaid}
 use Rattle.body.specs.Levels.{float32, isFinite}
-use Rattle.body.specs.Lists.{each, sixteen}
+use Rattle.body.specs.Lists.{sixteen}
 use Rattle.body.specs.declared.group.Counted.{Counted}
 use Rattle.body.specs.declared.group.Counted.the-variants.{Channels, Faulty}
 use Rattle.body.specs.declared.group.GroupPacking.{GroupPacking}

@@ -1,14 +1,8 @@
 -- Lists of up to 16 values.
 use Prim.Native.Nat.{ℕ, zero, suc}
-use mathlib.Core.Bool.{Bool, true}
 use mathlib.Core.List.{List, [], _∷_}
 use lib.Dec.{ltb}
-use Rattle.num.specs.Choice.{pick, both}
-
--- p holds of every number below n
-unfoldable pub each : (ℕ → Bool) → ℕ → Bool
-each p zero = true
-each p (suc n) = both (each p n) (p n)
+use Rattle.num.specs.Choice.{pick}
 
 -- k places from i on: f at those below n, d at the others
 unfoldable pub upto : {A : Type 0} → (ℕ → A) → A → ℕ → ℕ → ℕ → List A

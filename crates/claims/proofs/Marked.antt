@@ -3,6 +3,7 @@ use Prim.Native.Nat.{ℕ}
 use mathlib.Core.Path.{_≡_, refl}
 use mathlib.Core.List.{List, [], map}
 use lib.ListN.{length}
+use Rattle.num.specs.Choice.{each}
 use Rattle.num.specs.Answer.{gives}
 use Rattle.num.specs.declared.Order.the-variants.{Big}
 use Rattle.text.specs.Utf8.{fits, firstFit, runBy}
@@ -10,9 +11,9 @@ use Rattle.frame.specs.Frames.{framesBy}
 use Rattle.frame.specs.Place.{starts, shows, gap, orderOf}
 use Rattle.body.specs.Groups.{listed, offsetAt, packed}
 use Rattle.body.specs.Kind.{known, kindIn, kindOf}
-use Rattle.body.specs.Lists.{each, upto}
+use Rattle.body.specs.Lists.{upto}
 use Rattle.body.specs.Plain.{zeros, texts, text}
-use Rattle.cover.specs.Cover.{total, all, covers, groupCovers}
+use Rattle.cover.specs.Cover.{total, covers, groupCovers}
 use Rattle.effect.specs.Effect.{effect}
 use Rattle.reader.specs.Item.{Item, end}
 use Rattle.reader.specs.Items.{Given, itemsFrom, items}
@@ -27,7 +28,7 @@ read s = map (λ (g : Given). g .item) (items Big s)
 
 -- there are twelve, each stream has the items that its row names, and where nothing is ahead, as in the first, a step gives End
 pub marked-cases : (length table ≡ 12) × (map (map (λ (s : Stream). read (s .bytes))) table ≡ map (map (λ (s : Stream). s .holds)) table) × (stepOf Big [] newCursor .item ≡ gives end)
-unfolding stepOf table itemsFrom framesBy gap shows starts kindOf kindIn known effect text texts zeros runBy firstFit fits listed packed offsetAt each upto groupCovers covers total all
+unfolding stepOf table itemsFrom framesBy gap shows starts kindOf kindIn known effect text texts zeros runBy firstFit fits listed packed offsetAt each upto groupCovers covers total
 marked-cases = (refl, refl, refl)
 
 -- the order of the example is found, it has 73 bytes, and its listing is the text

@@ -6,13 +6,14 @@ use mathlib.Core.List.{List, [], _∷_, _++_, append-assoc}
 use native.Mathlib.Omega.{arith}
 use native.Mathlib.Numerals.{add-one}
 use native.Mathlib.Nat.{add-zero, add-mul, le-div-iff-mul-le, div-lt-iff-lt-mul, mul-le-mul-right}
-use borrow.Author.Tests.{le-leb, lt-leb, leb-true, leb-false, eqb-true, eqb-false}
-use lib.Dec.{eqb, leb}
+use borrow.Author.Tests.{le-leb, lt-leb, leb-true, leb-false}
+use lib.Dec.{leb}
 use lib.ListN.{length, getD, take, drop, set, length-append, length-drop}
 use lib.Seq.{drop-cons, set-at, append-snoc, take-at, drop-at}
-use Rattle.num.specs.Choice.{pick, both}
+use Rattle.num.specs.Choice.{pick, each}
 use Rattle.num.proofs.Laws.{elems, part-elems}
-use Rattle.copy.specs.Samples.{bytesAt, placeOf, iOf, qOf, pairsOf, realsOf, laid, each, inside, pairsFit, realsFit}
+use Rattle.num.proofs.Tests.{both-left, both-right, both-false, each-all, each-at, each-stop}
+use Rattle.copy.specs.Samples.{bytesAt, placeOf, iOf, qOf, pairsOf, realsOf, laid, inside, pairsFit, realsFit}
 
 -- the bytes of a number, written out
 pub bytes-elems : (w : ℕ) (src : List ℕ) (k : ℕ) → (k + 1) * w ≤ length src → bytesAt w src k ≡ elems (k * w) 0 w src
@@ -79,45 +80,6 @@ module _ {A : Type 0} (value : ℕ → A) where
 
   pub reals-rest : (out : List A) (n : ℕ) → drop n (laid (realsOf value n) out) ≡ drop n out
   reals-rest out n = rw (drop-at (realsOf value n) _ n (length-reals n), length-reals n)
-
-both-false : (b : Bool) → both b false ≡ false
-both-false true = refl
-both-false false = refl
-
--- where both tests hold, each does
-both-left : (a b : Bool) → both a b ≡ true → a ≡ true
-both-left true b h = refl
-both-left false b h = h
-
-both-right : (a b : Bool) → both a b ≡ true → b ≡ true
-both-right true b h = h
-both-right false b h = let z : _≡_ {A = ℕ} 0 1 = cc in absurd (omega arith)
-
-module _ (test : ℕ → Bool) where
-  each-all : (n : ℕ) → ((k : ℕ) → k < n → test k ≡ true) → each test n ≡ true
-  unfolding each
-  each-all zero h = refl
-  each-all (suc n) h = rw (each-all n (λ k l. h k (omega arith))) (h n (omega arith))
-
-  at-by : (n k : ℕ) (b : Bool) → eqb k n ≡ b → k < suc n → test n ≡ true → (k < n → test k ≡ true) → test k ≡ true
-  at-by n k true e l h r = let i : k ≡ n = eqb-true k n e in rw i h
-  at-by n k false e l h r = let i = eqb-false k n e in r (omega arith)
-
-  each-at : (n k : ℕ) → each test n ≡ true → k < n → test k ≡ true
-  unfolding each
-  each-at zero k h l = absurd (omega arith)
-  each-at (suc n) k h l =
-      at-by n k (eqb k n) refl l (both-right (each test n) (test n) h) (each-at n k (both-left (each test n) (test n) h))
-
-  stop-by : (n k : ℕ) (b : Bool) → each test n ≡ b → k < n → test k ≡ false → each test n ≡ false
-  stop-by n k true e l h =
-      let t = each-at n k e l in
-      let z : _≡_ {A = ℕ} 0 1 = cc in absurd (omega arith)
-  stop-by n k false e l h = e
-
-  -- one that fails decides
-  each-stop : (n k : ℕ) → k < n → test k ≡ false → each test n ≡ false
-  each-stop n k l h = stop-by n k (each test n) refl l h
 
 -- a pair lies inside where its place is below the number of places, by a division
 module _ (w size : ℕ) (pos : 0 < w) where

@@ -1,12 +1,12 @@
 -- The samples of one channel, out of the sample bytes of a data chunk into a slice.
 use Prim.Native.Nat.{ℕ, zero, suc, _+_, _*_}
-use mathlib.Core.Bool.{Bool, true}
+use mathlib.Core.Bool.{Bool}
 use mathlib.Core.List.{List, [], _∷_, _++_}
 use lib.Dec.{leb}
 use lib.IntN.{ℤ}
 use lib.ListN.{length, take, drop}
 use mir.Syntax.{w16}
-use Rattle.num.specs.Choice.{pick, both}
+use Rattle.num.specs.Choice.{pick, both, each}
 use Rattle.num.specs.Number.{unsigned, signed}
 use Rattle.num.specs.declared.Order.{Order}
 
@@ -48,11 +48,6 @@ realsOf value (suc n) = realsOf value n ++ (value n ∷ [])
 -- what a slice holds once values are copied to its front: the rest is as it was
 abbrev pub laid : {A : Type 0} → List A → List A → List A
 laid values out = values ++ drop (length values) out
-
--- a test holds of every number below n
-unfoldable pub each : (ℕ → Bool) → ℕ → Bool
-each test zero = true
-each test (suc n) = both (each test n) (test n)
 
 -- the pair at a place ends within so many bytes
 abbrev pub inside : ℕ → ℕ → ℕ → Bool

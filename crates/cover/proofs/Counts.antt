@@ -1,29 +1,13 @@
--- Laws of tests, of what holds of every number below a bound, and of totals that are 0 or 1.
+-- Laws of tests, and of totals that are 0 or 1.
 use Prim.Native.Nat.{ℕ, zero, suc, _+_, _-_, _<_, _≤_}
 use mathlib.Core.Path.{_≡_, refl, sym, ap, _∙_}
 use mathlib.Core.Bool.{Bool, true, false}
 use mathlib.Core.Logic.{_⊎_, inl, inr, ⊎-elim}
 use native.Mathlib.Omega.{arith}
 use native.Mathlib.Nat.{eq-or-lt-of-le, eq-zero-or-pos}
-use Rattle.num.specs.Choice.{both}
-use Rattle.cover.specs.Cover.{bit, total, all}
+use Rattle.cover.specs.Cover.{bit, total}
 
 -- ---- tests
-
-pub both-left : (a b : Bool) → both a b ≡ true → a ≡ true
-both-left true b h = refl
-both-left false b h = h
-
-pub both-right : (a b : Bool) → both a b ≡ true → b ≡ true
-both-right true b h = h
-both-right false b h = let z : _≡_ {A = ℕ} 0 1 = cc in absurd (omega arith)
-
-pub both-hold : (a b : Bool) → a ≡ true → b ≡ true → both a b ≡ true
-both-hold a b h k = rw (h, k)
-
-pub both-false : (b : Bool) → both b false ≡ false
-both-false true = refl
-both-false false = refl
 
 -- two tests are one where each holds when the other does
 pub agrees : (a b : Bool) → (a ≡ true → b ≡ true) → (b ≡ true → a ≡ true) → a ≡ b
@@ -53,36 +37,6 @@ either a b =
 
 last-or : (i n : ℕ) → i < suc n → (i ≡ n) ⊎ (i < n)
 last-or i n h = let l : i ≤ n = omega arith in eq-or-lt-of-le l
-
--- ---- every number below n
-
-pub all-at : (f : ℕ → Bool) (n : ℕ) → all f n ≡ true → (i : ℕ) → i < n → f i ≡ true
-unfolding all
-all-at f zero h i hi = absurd (omega arith)
-all-at f (suc n) h i hi =
-    ⊎-elim
-    (λ e. ap f e ∙ both-right (all f n) (f n) h)
-    (λ l. all-at f n (both-left (all f n) (f n) h) i l)
-    (last-or i n hi)
-
-pub all-of : (f : ℕ → Bool) (n : ℕ) → ((i : ℕ) → i < n → f i ≡ true) → all f n ≡ true
-unfolding all
-all-of f zero h = refl
-all-of f (suc n) h = both-hold (all f n) (f n) (all-of f n (λ i l. h i (omega arith))) (h n (omega arith))
-
-pub all-none : (f : ℕ → Bool) → all f 0 ≡ true
-unfolding all
-all-none f = refl
-
-pub all-next : (f : ℕ → Bool) (n : ℕ) → all f n ≡ true → f n ≡ true → all f (suc n) ≡ true
-unfolding all
-all-next f n h k = both-hold (all f n) (f n) h k
-
-pub all-not : (f : ℕ → Bool) (n i : ℕ) → i < n → f i ≡ false → all f n ≡ false
-all-not f n i hi e =
-    agrees (all f n) false
-    (λ h. sym e ∙ all-at f n h i hi)
-    (λ h. let z : _≡_ {A = ℕ} 0 1 = cc in absurd (omega arith))
 
 -- ---- totals
 

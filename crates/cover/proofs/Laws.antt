@@ -11,9 +11,10 @@ use borrow.Author.Tests.{ltb-true, leb-true, eqb-true, lt-ltb, le-leb, eq-eqb, n
 use lib.Arith.{digits-lt, digits-div, digits-mod}
 use lib.Dec.{eqb, ltb, leb}
 use lib.ListN.{getD}
-use Rattle.num.specs.Choice.{pick, both}
-use Rattle.cover.specs.Cover.{bit, total, all, standsAt, hits, inside, once, covers, packs, groupCovers}
-use Rattle.cover.proofs.Counts.{both-left, both-right, both-hold, both-false, agrees, bit-true, bit-zero, bit-not, either, all-at, all-of, zero-at, zero-of, one-at, one-of, is-one}
+use Rattle.num.specs.Choice.{pick, both, each}
+use Rattle.num.proofs.Tests.{both-left, both-right, both-hold, both-false, each-all, each-at}
+use Rattle.cover.specs.Cover.{bit, total, standsAt, hits, inside, once, covers, packs, groupCovers}
+use Rattle.cover.proofs.Counts.{agrees, bit-true, bit-zero, bit-not, either, zero-at, zero-of, one-at, one-of, is-one}
 
 -- Sample j of channel c stands at f c + j * inc, for n channels of m samples each: every place is below P, every pair
 -- below P is that of some sample, and of only one.
@@ -151,11 +152,11 @@ module _ (n inc m P : ℕ) (f : ℕ → ℕ) where
 
   rule-covered : inside n inc m f P ≡ true → once n inc m f P ≡ true → Covered n inc m P f
   rule-covered inn ones =
-      let row : ℕ → Bool = λ c. all (λ j. ltb (standsAt (f c) inc j) P) m in
+      let row : ℕ → Bool = λ c. each (λ j. ltb (standsAt (f c) inc j) P) m in
       let within : (c j : ℕ) → c < n → j < m → standsAt (f c) inc j < P =
-      λ c j hc hj. ltb-true _ _ (all-at (λ j. ltb (standsAt (f c) inc j) P) m (all-at row n inn c hc) j hj) in
+      λ c j hc hj. ltb-true _ _ (each-at (λ j. ltb (standsAt (f c) inc j) P) m j (each-at row n c inn hc) hj) in
       let hit : (p : ℕ) → p < P → hits n inc m f p ≡ 1 =
-      λ p hp. eqb-true _ _ (all-at (λ p. eqb (hits n inc m f p) 1) P ones p hp) in
+      λ p hp. eqb-true _ _ (each-at (λ p. eqb (hits n inc m f p) 1) P p ones hp) in
       record {
         inside = within;
         some = λ p hp. (let t = the p (hit p hp) in (t .0, t .1, t .2, t .3, t .4));
@@ -169,11 +170,11 @@ module _ (n inc m P : ℕ) (f : ℕ → ℕ) where
   module _ (s : Covered n inc m P f) where
     covered-inside : inside n inc m f P ≡ true
     covered-inside =
-        all-of (λ c. all (λ j. ltb (standsAt (f c) inc j) P) m) n
-        (λ c hc. all-of (λ j. ltb (standsAt (f c) inc j) P) m (λ j hj. lt-ltb (standsAt (f c) inc j) P (s .inside c j hc hj)))
+        each-all (λ c. each (λ j. ltb (standsAt (f c) inc j) P) m) n
+        (λ c hc. each-all (λ j. ltb (standsAt (f c) inc j) P) m (λ j hj. lt-ltb (standsAt (f c) inc j) P (s .inside c j hc hj)))
 
     covered-once : once n inc m f P ≡ true
-    covered-once = all-of (λ p. eqb (hits n inc m f p) 1) P (λ p hp. eq-eqb (hits n inc m f p) 1 (hit p (s .some p hp)))
+    covered-once = each-all (λ p. eqb (hits n inc m f p) 1) P (λ p hp. eq-eqb (hits n inc m f p) 1 (hit p (s .some p hp)))
       where
         hit : (p : ℕ) → ((c : ℕ) × (j : ℕ) × (c < n) × (j < m) × (standsAt (f c) inc j ≡ p)) → hits n inc m f p ≡ 1
         hit p t =
@@ -227,9 +228,9 @@ module _ (n u : ℕ) (f : ℕ → ℕ) (k : ℕ) where
   good a b c = rw (eq-eqb (f k % u) 0 a, lt-ltb (f k / u) n b, eq-eqb (total (λ c. bit (eqb (f c) (k * u))) n) 1 c)
 
 module _ (n u : ℕ) (f : ℕ → ℕ) (hu : 0 < u) where
-  test-units : all (unitAt n u f) n ≡ true → Units n u f
+  test-units : each (unitAt n u f) n ≡ true → Units n u f
   test-units h =
-      let at : (k : ℕ) → k < n → unitAt n u f k ≡ true = all-at (unitAt n u f) n h in
+      let at : (k : ℕ) → k < n → unitAt n u f k ≡ true = λ k. each-at (unitAt n u f) n k h in
       let mult : (c : ℕ) → c < n → f c ≡ f c / u * u =
       λ c hc.
       let z : f c % u ≡ 0 = eqb-true _ _ (both-left (eqb (f c % u) 0) _ (at c hc)) in
@@ -250,8 +251,8 @@ module _ (n u : ℕ) (f : ℕ → ℕ) (hu : 0 < u) where
             ∙ sym (is-one (λ c. eqb (f c) (k * u)) n (a .0) c′ (a .3) hc′ (eq-eqb _ _ (sym e ∙ mult c hc))));
       }
 
-  units-test : Units n u f → all (unitAt n u f) n ≡ true
-  units-test s = all-of (unitAt n u f) n (λ k hk. at k (s .multiple k hk) (s .has k hk))
+  units-test : Units n u f → each (unitAt n u f) n ≡ true
+  units-test s = each-all (unitAt n u f) n (λ k hk. at k (s .multiple k hk) (s .has k hk))
     where
       at : (k : ℕ) → ((q : ℕ) × (q < n) × (f k ≡ q * u)) → ((c : ℕ) × (c < n) × (f c ≡ k * u)) → unitAt n u f k ≡ true
       at k a b =
@@ -298,7 +299,7 @@ shares n P z = omega (arith, div-add-mod' P n, mul-comm n (P / n))
 
 -- with pairs that n divides, the rule is the code's test of every channel
 pub verdict : (n inc P : ℕ) (f : ℕ → ℕ) → packs n inc ≡ true → P % n ≡ 0 → 0 < P →
-    covers n inc f P ≡ all (unitAt n (pick (eqb inc 1) (P / n) 1) f) n
+    covers n inc f P ≡ each (unitAt n (pick (eqb inc 1) (P / n) 1) f) n
 verdict n inc P f h z hp = ⊎-elim blocks turns (either inc 1)
   where
     hn : 0 < n
@@ -313,16 +314,16 @@ verdict n inc P f h z hp = ⊎-elim blocks turns (either inc 1)
     covered : (inc : ℕ) → Covered n inc (P / n) (n * (P / n)) f → covers n inc f P ≡ true
     covered inc s = covered-covers n inc P f z (subst (λ (x : ℕ). Covered n inc (P / n) x f) (sym (shares n P z)) s)
 
-    blocks : inc ≡ 1 → covers n inc f P ≡ all (unitAt n (pick (eqb inc 1) (P / n) 1) f) n
+    blocks : inc ≡ 1 → covers n inc f P ≡ each (unitAt n (pick (eqb inc 1) (P / n) 1) f) n
     blocks q =
-        rw q (agrees (covers n 1 f P) (all (unitAt n (P / n) f) n)
+        rw q (agrees (covers n 1 f P) (each (unitAt n (P / n) f) n)
         (λ c. units-test n (P / n) f hm (cover-blocks n (P / n) f hm (shared 1 c)))
         (λ t. covered 1 (blocks-cover n (P / n) f hm (test-units n (P / n) f hm t))))
 
-    turns : (inc ≡ 1 → ⊥) → covers n inc f P ≡ all (unitAt n (pick (eqb inc 1) (P / n) 1) f) n
+    turns : (inc ≡ 1 → ⊥) → covers n inc f P ≡ each (unitAt n (pick (eqb inc 1) (P / n) 1) f) n
     turns q =
         rw (ne-eqb inc 1 q, ⊎-elim (λ r. absurd (q r)) (λ r. r) (packed n inc h .2))
-        (agrees (covers n n f P) (all (unitAt n 1 f) n)
+        (agrees (covers n n f P) (each (unitAt n 1 f) n)
         (λ c. units-test n 1 f (omega arith) (cover-turns n (P / n) f hn hm (shared n c)))
         (λ t. covered n (turns-cover n (P / n) f hn (test-units n 1 f (omega arith) t))))
 

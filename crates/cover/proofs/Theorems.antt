@@ -5,8 +5,8 @@ use mathlib.Core.Bool.{true}
 use mathlib.Core.List.{List}
 use mathlib.Core.Logic.{_⊎_}
 use lib.ListN.{getD}
+use Rattle.num.proofs.Tests.{both-left, both-right, both-hold}
 use Rattle.cover.specs.Cover.{covers, packs, groupCovers}
-use Rattle.cover.proofs.Counts.{both-left, both-right, both-hold}
 use Rattle.cover.proofs.Laws.{Covered, covers-covered, covered-covers, packed, packs-of}
 
 -- n divides P, and with P / n samples to a channel every sample stands below P, and every pair below P is that of some

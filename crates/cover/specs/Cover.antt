@@ -4,7 +4,7 @@ use mathlib.Core.Bool.{Bool, true}
 use mathlib.Core.List.{List}
 use lib.Dec.{eqb, ltb, leb}
 use lib.ListN.{getD}
-use Rattle.num.specs.Choice.{pick, both}
+use Rattle.num.specs.Choice.{pick, both, each}
 
 -- 1 where the test holds, 0 where it does not
 abbrev pub bit : Bool → ℕ
@@ -14,11 +14,6 @@ bit b = pick b 1 0
 unfoldable pub total : (ℕ → ℕ) → ℕ → ℕ
 total g zero = 0
 total g (suc n) = total g n + g n
-
--- the test holds of every number below n
-unfoldable pub all : (ℕ → Bool) → ℕ → Bool
-all f zero = true
-all f (suc n) = both (all f n) (f n)
 
 -- the pair at which sample j stands, of a channel with this offset
 abbrev pub standsAt : ℕ → ℕ → ℕ → ℕ
@@ -30,11 +25,11 @@ hits n increment m offset p = total (λ c. total (λ j. bit (eqb (standsAt (offs
 
 -- m samples of each of n channels stand below P
 abbrev pub inside : ℕ → ℕ → ℕ → (ℕ → ℕ) → ℕ → Bool
-inside n increment m offset P = all (λ c. all (λ j. ltb (standsAt (offset c) increment j) P) m) n
+inside n increment m offset P = each (λ c. each (λ j. ltb (standsAt (offset c) increment j) P) m) n
 
 -- each pair below P is that of exactly one (c, j)
 abbrev pub once : ℕ → ℕ → ℕ → (ℕ → ℕ) → ℕ → Bool
-once n increment m offset P = all (λ p. eqb (hits n increment m offset p) 1) P
+once n increment m offset P = each (λ p. eqb (hits n increment m offset p) 1) P
 
 -- the channels share the P pairs evenly, no sample stands past them, and no pair is left out or taken twice
 unfoldable pub covers : ℕ → ℕ → (ℕ → ℕ) → ℕ → Bool

@@ -13,6 +13,7 @@ use Rattle.num.specs.Answer.{Answer, gives, refuses, then}
 use Rattle.num.specs.Choice.{both, either}
 use Rattle.num.specs.Number.{unsignedAt}
 use Rattle.num.specs.declared.Order.{Order}
+use Rattle.num.proofs.Tests.{both-true, each-at}
 use Rattle.body.specs.Check.{int32, int64, allowed}
 use Rattle.body.specs.Numbers.{siqp, sr, bw, cf, bwof}
 use Rattle.body.specs.Levels.{isFinite, finite32, dbfs, dbtg, ffs}
@@ -26,8 +27,6 @@ use Rattle.body.specs.declared.number.Band.{Band}
 use Rattle.body.specs.declared.group.GroupPacking.{GroupPacking}
 use Rattle.body.specs.declared.group.GroupHertz.{GroupHertz}
 use Rattle.body.specs.declared.group.GroupGains.{GroupGains}
-use Rattle.body.proofs.Laws.{both-true}
-use Rattle.body.proofs.Lists.{each-at}
 use Rattle.body.proofs.Allowed.{sized-gives, finite-gives, then-gives, listed-gives, small32}
 use Rattle.state.specs.Good.{zeroOrOne, anyNumber, scale, offset, nothing, isZero, isPlusZero, goodNumber, goodBand, goodLevel, goodList, goodGroup, goodFrequencies, goodGains, goodState}
 use Rattle.state.specs.declared.State.{State}

@@ -4,7 +4,7 @@ use mathlib.Core.Path.{_≡_, refl, ap, sym, _∙_}
 use mathlib.Core.List.{List, [], _∷_, _++_, append-assoc}
 use mathlib.Core.Bool.{Bool, true, false}
 use native.Mathlib.Omega.{arith}
-use lib.ListN.{length, getD, drop, take, length-append, length-drop, length-take, take-append-drop}
+use lib.ListN.{length, getD, drop, take, length-append, length-drop, take-append-drop}
 use lib.Seq.{drop-cons, drop-drop, drop-at, take-at, length-take-le}
 use lib.Dec.{leb, ltb, eqb}
 use borrow.Author.Tests.{ltb-false, leb-true, le-leb}
@@ -12,11 +12,12 @@ use Rattle.num.specs.Choice.{pick}
 use Rattle.num.specs.Number.{unsigned, bytesOf}
 use Rattle.num.specs.declared.Order.{Order}
 use Rattle.num.proofs.Laws.{Bytes, bytes-length, read-written, written-read}
+use Rattle.num.proofs.Tests.{both-true}
 use Rattle.frame.specs.declared.At.{At}
 use Rattle.frame.specs.declared.At.the-variants.{NoSync, Bad, Unfinished, Complete}
 use Rattle.frame.specs.Place.{syncBytes, starts, word, typeIn, sizeIn, goodSize, shows, stops, gap}
-use Rattle.frame.specs.Frames.{Frame, chunk, skipped, unfinished, chunkBytes, frameBytes, width, frameAt, first, framesBy, frames}
-use Rattle.frame.proofs.Laws.{both-true, sync-length, starts-split, starts-self, take-bytes, drop-bytes, shows-headed, gap-pass}
+use Rattle.frame.specs.Frames.{Frame, chunk, skipped, unfinished, chunkBytes, width, frameAt, first, framesBy, frames}
+use Rattle.frame.proofs.Laws.{sync-length, starts-split, starts-self, take-bytes, drop-bytes, shows-headed, gap-pass}
 
 -- ---- a complete chunk
 

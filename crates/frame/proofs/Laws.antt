@@ -1,11 +1,11 @@
 -- Laws of what a stream shows at a place, of the gap before a search stops, and of the order.
-use Prim.Native.Nat.{ℕ, zero, suc, _+_, _-_, _%_, _^_, _≤_, _<_}
+use Prim.Native.Nat.{ℕ, zero, suc, _+_, _-_, _^_, _≤_, _<_}
 use mathlib.Core.Path.{_≡_, refl, ap, sym, _∙_}
 use mathlib.Core.List.{List, [], _∷_, _++_}
 use mathlib.Core.Bool.{Bool, true, false}
 use native.Mathlib.Numerals.{add-one}
 use native.Mathlib.Omega.{arith}
-use lib.ListN.{length, getD, drop, take, length-append, length-drop, length-take, take-append-drop}
+use lib.ListN.{length, getD, drop, take, length-drop, take-append-drop}
 use lib.Seq.{drop-cons, drop-drop, getD-drop, length-take-le, take-append-seam}
 use lib.Dec.{eqb, leb, ltb}
 use borrow.Author.Tests.{eq-eqb, eqb-true, lt-ltb, le-ltb, ltb-true, ltb-false}
@@ -17,6 +17,7 @@ use Rattle.num.specs.Number.{unsigned, unsignedAt, bytesOf}
 use Rattle.num.specs.declared.Order.{Order}
 use Rattle.num.specs.declared.Order.the-variants.{Big, Little}
 use Rattle.num.proofs.Laws.{Bytes, at-some, bytes-length, read-written, written-read}
+use Rattle.num.proofs.Tests.{both-true, both-false}
 use Rattle.frame.specs.declared.At.{At}
 use Rattle.frame.specs.declared.At.the-variants.{NoSync, Bad, Unfinished, Complete}
 use Rattle.frame.specs.declared.Found.{Found}
@@ -25,14 +26,6 @@ use Rattle.frame.proofs.At.{the-type}
 use Rattle.frame.specs.Place.{syncBytes, starts, word, typeIn, sizeIn, goodSize, shows, stops, gap, searchFrom, orderOf}
 
 -- ---- the front of a list
-
-both-false : (b : Bool) → both b false ≡ false
-both-false true = refl
-both-false false = refl
-
-pub both-true : (a b : Bool) → both a b ≡ true → (a ≡ true) × (b ≡ true)
-both-true true b h = (refl, h)
-both-true false b h = let z : _≡_ {A = ℕ} 0 1 = cc in absurd (omega arith)
 
 never-true : (b : Bool) → (b ≡ true → ⊥) → b ≡ false
 never-true true h = absurd (h refl)

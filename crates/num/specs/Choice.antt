@@ -1,4 +1,5 @@
--- Choosing by a test, for every type.
+-- Choosing by a test, for every type, and tests put together.
+use Prim.Native.Nat.{ℕ, zero, suc}
 use mathlib.Core.Bool.{Bool, true, false}
 
 -- a where the test holds, b where it does not
@@ -15,3 +16,8 @@ both false b = false
 abbrev pub either : Bool → Bool → Bool
 either true b = true
 either false b = b
+
+-- the test holds of every number below n
+unfoldable pub each : (ℕ → Bool) → ℕ → Bool
+each test zero = true
+each test (suc n) = both (each test n) (test n)

@@ -5,15 +5,16 @@ use mathlib.Core.Bool.{false}
 use mathlib.Core.List.{List, [], _∷_, _++_}
 use lib.Ieee.{ofBits}
 use lib.IntN.{pos, negsuc}
+use Rattle.num.specs.Choice.{each}
 use Rattle.num.specs.declared.Order.the-variants.{Little}
 use Rattle.frame.specs.Frames.{chunkBytes}
 use Rattle.frame.specs.Place.{starts, shows}
 use Rattle.body.specs.Kind.{codeOf, known, kindIn, kindOf}
 use Rattle.body.specs.Groups.{listed, offsetAt, packed}
-use Rattle.body.specs.Lists.{each, upto}
+use Rattle.body.specs.Lists.{upto}
 use Rattle.body.specs.declared.kind.Kind.the-variants.{SR, GIQP, GSNC}
 use Rattle.copy.specs.Samples.{pairsOf}
-use Rattle.cover.specs.Cover.{total, all, covers, groupCovers}
+use Rattle.cover.specs.Cover.{total, covers, groupCovers}
 use Rattle.effect.specs.Effect.{effect}
 use Rattle.reader.specs.Step.{newCursor, stepOf}
 use Rattle.reader.specs.declared.Cursor.{Cursor}
@@ -35,5 +36,5 @@ pub third : Cursor
 third = stepOf Little stream (stepOf Little stream newCursor .cursor) .cursor
 
 pub copied : leftBy false Little stream third 1 (pos 9 ∷ pos 9 ∷ pos 9 ∷ []) ≡ pos 20 ∷ negsuc 1 ∷ pos 9 ∷ []
-unfolding stream third runOf stepOf shows starts kindOf kindIn known effect goodState goodFrom ofBits packed listed each offsetAt upto groupCovers covers all total layoutAt countOf shapeOf pairsOf
+unfolding stream third runOf stepOf shows starts kindOf kindIn known effect goodState goodFrom ofBits packed listed each offsetAt upto groupCovers covers total layoutAt countOf shapeOf pairsOf
 copied = refl

@@ -8,7 +8,8 @@ use lib.Dec.{eqb, leb}
 use lib.ListN.{length, getD, take, List·getD-append}
 use lib.Seq.{take-suc, getD-append-add, append-snoc}
 use borrow.Author.Tests.{le-leb, leb-true, eqb-true, eqb-false}
-use Rattle.copy.specs.Samples.{placeOf, iOf, qOf, pairsOf, realsOf, each, inside, pairsFit}
+use Rattle.num.specs.Choice.{each}
+use Rattle.copy.specs.Samples.{placeOf, iOf, qOf, pairsOf, realsOf, inside, pairsFit}
 use Rattle.copy.proofs.Laws.{length-pairs, pair-inside}
 use Rattle.samples.specs.Layout.{valuesOf}
 use Rattle.samples.specs.Plan.{wide, lies}

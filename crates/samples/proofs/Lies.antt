@@ -1,5 +1,5 @@
 -- The numbers of a channel lie inside the sample bytes of its chunk.
-use Prim.Native.Nat.{ℕ, zero, suc, _+_, _-_, _*_, _/_, _≤_, _<_}
+use Prim.Native.Nat.{ℕ, _+_, _-_, _*_, _/_, _≤_, _<_}
 use mathlib.Core.Path.{_≡_, refl}
 use mathlib.Core.Bool.{Bool, true, false}
 use mathlib.Core.List.{List}
@@ -10,8 +10,9 @@ use lib.ListN.{length, getD}
 use borrow.Author.Tests.{le-leb, ltb-true}
 use Rattle.num.specs.Answer.{gives, refuses}
 use Rattle.num.specs.Choice.{pick}
+use Rattle.num.proofs.Tests.{each-all}
 use Rattle.body.specs.declared.data.Data.{Data}
-use Rattle.copy.specs.Samples.{each, inside, placeOf}
+use Rattle.copy.specs.Samples.{inside, placeOf}
 use Rattle.cover.proofs.Theorems.{group-says}
 use Rattle.state.specs.declared.State.{State}
 use Rattle.samples.specs.Plan.{wide, lies}
@@ -20,11 +21,6 @@ use Rattle.samples.specs.declared.Layout.{Layout}
 use Rattle.samples.specs.declared.Shape.{Shape}
 use Rattle.samples.specs.declared.Shape.the-variants.{ShortPairs, ShortReals, ShortGroup, FloatPairs, FloatReals, FloatGroup, NoData}
 use Rattle.samples.proofs.Ready.{IsReady, Covered}
-
-each-of : (p : ℕ → Bool) (n : ℕ) → ((j : ℕ) → j < n → p j ≡ true) → each p n ≡ true
-unfolding each
-each-of p zero h = refl
-each-of p (suc n) h = rw (each-of p n (λ j q. h j (omega arith))) (h n (omega arith))
 
 inside-of : (w size place samples : ℕ) → size ≡ samples * (2 * w) → place < samples → inside w size place ≡ true
 inside-of w size place samples e h =
@@ -39,7 +35,7 @@ module _ (channel : ℕ) (body : List ℕ) (s : State) (d : Data) (l : Layout) w
   pairs-lie : (w : ℕ) → length body ≡ 8 + d .samples * (2 * w) → alone channel (paired s d) ≡ gives l → lies w (length body - 8) l ≡ true
   pairs-lie w n e =
       let h = alone-gives channel (eqb channel 0) (paired s d) l e in
-      rw (← h .1) (each-of (λ (j : ℕ). inside w (length body - 8) (placeOf 0 1 j)) (d .samples) (λ j q. inside-of w (length body - 8) (placeOf 0 1 j) (d .samples) (omega arith) (omega arith)))
+      rw (← h .1) (each-all (λ (j : ℕ). inside w (length body - 8) (placeOf 0 1 j)) (d .samples) (λ j q. inside-of w (length body - 8) (placeOf 0 1 j) (d .samples) (omega arith) (omega arith)))
 
   reals-lie : (w : ℕ) → length body ≡ 8 + d .samples * w → alone channel (real d) ≡ gives l → lies w (length body - 8) l ≡ true
   reals-lie w n e =
@@ -50,7 +46,7 @@ module _ (channel : ℕ) (body : List ℕ) (s : State) (d : Data) (l : Layout) w
   group-lies w n k e =
       let h = alone-gives channel (ltb channel (s .group .n)) (member channel s d) l e in
       let g = group-says (d .samples) (s .group .n) (s .group .increment) (s .group .offsets) k in
-      rw (← h .1) (each-of (λ (j : ℕ). inside w (length body - 8) (placeOf (getD (s .group .offsets) channel 0) (s .group .increment) j)) (d .samples / s .group .n) (λ j q. inside-of w (length body - 8) (placeOf (getD (s .group .offsets) channel 0) (s .group .increment) j) (d .samples) (omega arith) (g .cover .each .inside channel j (ltb-true channel (s .group .n) (h .0)) q)))
+      rw (← h .1) (each-all (λ (j : ℕ). inside w (length body - 8) (placeOf (getD (s .group .offsets) channel 0) (s .group .increment) j)) (d .samples / s .group .n) (λ j q. inside-of w (length body - 8) (placeOf (getD (s .group .offsets) channel 0) (s .group .increment) j) (d .samples) (omega arith) (g .cover .each .inside channel j (ltb-true channel (s .group .n) (h .0)) q)))
 
   pub layout-lies : (float : Bool) (shape : Shape) → hasWidth float shape ≡ true → IsReady shape body d s → arranged shape channel s d ≡ gives l → lies (wide float) (length body - 8) l ≡ true
   layout-lies false ShortPairs w r e = pairs-lie 2 (r .size) e

@@ -5,8 +5,9 @@ use mathlib.Core.Bool.{true, false}
 use mathlib.Core.List.{List}
 use lib.Dec.{leb}
 use borrow.Author.Tests.{leb-true}
+use Rattle.num.specs.Choice.{each}
 use Rattle.num.specs.Answer.{gives, refuses}
-use Rattle.copy.specs.Samples.{each, inside, placeOf, pairsOf, realsOf, laid, pairsFit, realsFit}
+use Rattle.copy.specs.Samples.{inside, placeOf, pairsOf, realsOf, laid, pairsFit, realsFit}
 use Rattle.samples.specs.Copy.{counted, filled}
 use Rattle.samples.specs.Plan.{lies}
 use Rattle.samples.specs.declared.Layout.{Layout}

@@ -6,9 +6,9 @@ use mathlib.Core.List.{List}
 use lib.Dec.{leb}
 use lib.ListN.{length, take, drop}
 use Rattle.num.specs.Answer.{Answer, gives, refuses}
-use Rattle.num.specs.Choice.{pick}
+use Rattle.num.specs.Choice.{pick, each}
 use Rattle.num.specs.declared.Order.{Order}
-use Rattle.copy.specs.Samples.{each, inside, placeOf}
+use Rattle.copy.specs.Samples.{inside, placeOf}
 use Rattle.reader.specs.declared.Cursor.{Cursor}
 use Rattle.samples.specs.Copy.{samplesAt}
 use Rattle.samples.specs.declared.Laid.{Laid}

@@ -8,13 +8,13 @@ use lib.IntN.{ℤ, pos}
 use lib.Signed.{leZ}
 use borrow.Author.Tests.{le-leb, ltb-true}
 use Rattle.num.specs.Choice.{pick}
+use Rattle.num.proofs.Tests.{both-true}
 use Rattle.body.specs.Groups.{noPacking, noHertz, noGains}
 use Rattle.body.specs.Levels.{isFinite}
 use Rattle.body.specs.Lists.{upto, sixteen}
 use Rattle.body.specs.declared.group.GroupPacking.{GroupPacking}
 use Rattle.body.specs.declared.group.GroupHertz.{GroupHertz}
 use Rattle.body.specs.declared.group.GroupGains.{GroupGains}
-use Rattle.body.proofs.Laws.{both-true}
 use Rattle.state.specs.declared.Held.{Held}
 use Rattle.state.specs.declared.BandHeld.{BandHeld}
 use Rattle.state.specs.declared.LevelHeld.{LevelHeld}

@@ -11,13 +11,10 @@ use lib.Dec.{ltb, leb, eqb}
 use lib.ListN.{length, drop, getD, length-drop, drop-of-length-le}
 use lib.Seq.{drop-cons, drop-drop}
 use Rattle.num.specs.Choice.{pick, both}
+use Rattle.num.proofs.Tests.{both-true}
 use Rattle.text.specs.Utf8.{Range, between, table, within, fits, firstFit, character, runBy, isUtf8}
 
 -- ---- tests
-
-pub both-true : (a b : Bool) → both a b ≡ true → (a ≡ true) × (b ≡ true)
-both-true true b h = (refl, h)
-both-true false b h = let z : _≡_ {A = ℕ} 0 1 = cc in absurd (omega arith)
 
 never-true : (b : Bool) → (b ≡ true → ⊥) → b ≡ false
 never-true true h = absurd (h refl)

@@ -10,8 +10,9 @@ use lib.Dec.{ltb}
 use lib.ListN.{length, drop, getD, length-drop}
 use lib.Seq.{drop-append-le, drop-length}
 use Rattle.num.specs.Choice.{pick}
+use Rattle.num.proofs.Tests.{both-true}
 use Rattle.text.specs.Utf8.{Range, table, within, fits, firstFit, character, runBy, isUtf8}
-use Rattle.text.proofs.Laws.{both-true, fit-le, distinct, allApart, none-fits, utf8-cons, utf8-nil, plain-run}
+use Rattle.text.proofs.Laws.{fit-le, distinct, allApart, none-fits, utf8-cons, utf8-nil, plain-run}
 
 -- ---- examples
 

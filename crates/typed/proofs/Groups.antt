@@ -19,15 +19,15 @@ use Rattle.num.specs.Choice.{pick, either}
 use Rattle.num.specs.Number.{unsignedAt, bytesOf}
 use Rattle.num.specs.declared.Order.{Order}
 use Rattle.num.proofs.Laws.{bytes-length}
+use Rattle.num.proofs.Tests.{both-true, each-all, each-stop}
 use Rattle.body.specs.Groups.{listed, headOk, offsetAt, offsetsOk, packed, hertzAt, tuned, gainAt, gainsOk, amplified, giqp, gcf, grg}
 use Rattle.body.specs.Levels.{isFinite}
-use Rattle.body.specs.Lists.{each, upto, sixteen}
+use Rattle.body.specs.Lists.{upto, sixteen}
 use Rattle.body.specs.declared.group.GroupPacking.{GroupPacking}
 use Rattle.body.specs.declared.group.GroupHertz.{GroupHertz}
 use Rattle.body.specs.declared.group.GroupGains.{GroupGains}
 use Rattle.body.proofs.Groups.{listed-many, listed-whole, packed-head, packed-offsets, packed-good}
-use Rattle.body.proofs.Laws.{both-true, negative32, is-pattern}
-use Rattle.body.proofs.Lists.{each-stop}
+use Rattle.body.proofs.Laws.{negative32, is-pattern}
 use Rattle.state.specs.Good.{isZero, isPlusZero, anyNumber, offset, nothing, goodFrom, goodHead, goodList, goodGroup, goodFrequencies, goodGains}
 use Rattle.state.proofs.Tests.{plus-zero-pattern}
 use Rattle.typed.specs.Bodies.{int64, float32}
@@ -36,12 +36,6 @@ use Rattle.typed.proofs.Laid.{laid-length}
 use Rattle.typed.proofs.Numbers.{number-at, value-at}
 
 -- ---- lists of sixteen
-
--- a test that holds below n holds of each
-each-all : (p : ℕ → Bool) (n : ℕ) → ((c : ℕ) → c < n → p c ≡ true) → each p n ≡ true
-unfolding each
-each-all p zero h = refl
-each-all p (suc n) h = rw (each-all p n (λ c k. h c (omega arith)), h n (omega arith))
 
 module _ {A : Type 0} (f : ℕ → A) (d : A) (n : ℕ) where
   upto-is : (i : ℕ) (l : List A) → ((j : ℕ) → j < length l → pick (ltb (i + j) n) (f (i + j)) d ≡ getD l j d) → upto f d n i (length l) ≡ l

@@ -13,6 +13,7 @@ use mir.Syntax.{w64}
 use mir.Val.{SFits, ofZ}
 use Rattle.num.specs.Answer.{gives}
 use Rattle.num.specs.declared.Order.{Order}
+use Rattle.num.proofs.Tests.{both-true}
 use Rattle.text.specs.Utf8.{isUtf8}
 use Rattle.body.specs.Kind.{codeOf, known, kindIn, kindOf}
 use Rattle.body.specs.Levels.{isFinite}
@@ -22,7 +23,6 @@ use Rattle.body.specs.declared.group.GroupHertz.{GroupHertz}
 use Rattle.body.specs.declared.group.GroupGains.{GroupGains}
 use Rattle.body.specs.declared.kind.Kind.{Kind}
 use Rattle.body.specs.declared.kind.Kind.the-variants.{GIQP, GCF, GRG, TEXT}
-use Rattle.body.proofs.Laws.{both-true}
 use Rattle.state.specs.Good.{isZero, isPlusZero, anyNumber, offset, nothing, goodFrom, goodHead, goodList, goodGroup, goodFrequencies, goodGains}
 use Rattle.writer.specs.Write.{mayWrite}
 use Rattle.typed.specs.Groups.{packingBody, hertzBody, gainsBody}

@@ -17,9 +17,10 @@ use Rattle.num.specs.Choice.{pick, both}
 use Rattle.num.specs.Number.{bytesOf}
 use Rattle.num.specs.declared.Order.{Order}
 use Rattle.num.proofs.Laws.{bytes-length}
+use Rattle.num.proofs.Tests.{both-true}
 use Rattle.frame.specs.Place.{syncBytes, goodSize}
 use Rattle.frame.specs.Frames.{chunkBytes}
-use Rattle.frame.proofs.Laws.{both-true, sync-length}
+use Rattle.frame.proofs.Laws.{sync-length}
 use Rattle.body.specs.Fault.{checkedSaid}
 use Rattle.body.specs.Kind.{kindOf}
 use Rattle.body.specs.Verdict.{verdict}

@@ -5,11 +5,11 @@ use mathlib.Core.Bool.{true, false}
 use mathlib.Core.List.{List}
 use native.Mathlib.Omega.{arith}
 use native.Mathlib.Nat.{mul-le-mul-right, mul-le-mul-left, mul-div-le}
-use native.Mathlib.Numerals.{add-one}
 use borrow.Author.Needs.{needs}
 use lib.ListN.{getD}
-use Rattle.cover.specs.Cover.{all, covers}
-use Rattle.cover.proofs.Counts.{all-none, all-next, all-not}
+use Rattle.num.specs.Choice.{each}
+use Rattle.num.proofs.Tests.{each-none, each-next, each-stop}
+use Rattle.cover.specs.Cover.{covers}
 use Rattle.cover.proofs.Laws.{unitAt, no-multiple, too-high, not-once, good, packed, some-each, verdict}
 use Rattle.cover.proofs.fills.Statement.{statement}
 use Rattle.cover.proofs.fills.Tie as tie
@@ -19,8 +19,8 @@ at offsets c = getD offsets c 0
 
 abbrev Inv-loop : tie.InvT-loop
 Inv-loop pairs n increment offsets unit k₀ k =
-    (covers n increment (at offsets) pairs ≡ all (unitAt n unit (at offsets)) n)
-    × (all (unitAt n unit (at offsets)) k ≡ true) × (k ≤ n) × (n ≤ 16)
+    (covers n increment (at offsets) pairs ≡ each (unitAt n unit (at offsets)) n)
+    × (each (unitAt n unit (at offsets)) k ≡ true) × (k ≤ n) × (n ≤ 16)
 
 abbrev μ-loop : tie.MeasureT-loop
 μ-loop pairs n increment offsets unit k₀ k = n - k
@@ -36,7 +36,7 @@ loop-holds c =
     let a = c .before .args in
     let p = c .before .pre in (
       rw (c .unit-of .ensures .0) (verdict (a .n) (a .increment) (a .pairs) (at (a .t4)) (p .0) (p .1) (p .2)),
-      all-none _,
+      each-none _,
       omega arith,
       packed (a .n) (a .increment) (p .0) .1,
     )
@@ -67,7 +67,7 @@ K c = c .before .loop .k
 fails : (c : tie.In-loop Inv-loop μ-loop) → unitAt (N c) (U c) (F c) (K c) ≡ false →
     let a = c .before .before .before .args in
     false ≡ covers (a .n) (a .increment) (at (a .t4)) (a .pairs)
-fails c h = sym (c .before .loop .inv .0 ∙ all-not _ _ (K c) (c .loop-test .taken) h)
+fails c h = sym (c .before .loop .inv .0 ∙ each-stop _ _ (K c) (c .loop-test .taken) h)
 
 rem-if1 : tie.Need-rem-if1 Inv-loop μ-loop
 rem-if1 c = c .before .before .before .unit-of .ensures .1
@@ -115,10 +115,10 @@ loop-again c =
     let i = w .before in
     let inv = i .before .loop .inv in (
       inv .0,
-      rw add-one (all-next (unitAt (N i) (U i) (F i)) (K i) (inv .1)
+      each-next (unitAt (N i) (U i) (F i)) (K i) (inv .1)
           (good (N i) (U i) (F i) (K i) (rw (w .wide .ensures) at (c .before .before .before .if1 .left))
           (rw (w .wide .ensures) at (c .before .before .if2 .left))
-          (rw (c .before .times .ensures) at (c .if3 .left)))),
+          (rw (c .before .times .ensures) at (c .if3 .left))),
       omega arith,
       omega arith,
     )

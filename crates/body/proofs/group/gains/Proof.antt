@@ -5,11 +5,12 @@ use mathlib.Core.Bool.{true}
 use native.Mathlib.Omega.{arith}
 use borrow.Author.Needs.{needs}
 use lib.Ieee.{binary32, ofBits}
+use Rattle.num.proofs.Tests.{each-at}
 use Rattle.body.specs.Levels.{isFinite}
 use Rattle.body.specs.Lists.{sixteen}
 use Rattle.body.specs.Groups.{gainAt}
 use Rattle.body.proofs.Floats.{no-nan, finite-small}
-use Rattle.body.proofs.Lists.{each-at, upto-none, upto-next}
+use Rattle.body.proofs.Lists.{upto-none, upto-next}
 use Rattle.body.proofs.group.gains.Statement.{statement}
 use Rattle.body.proofs.group.gains.Tie as tie
 

@@ -7,10 +7,10 @@ use borrow.Author.Needs.{needs}
 use borrow.Author.Tests.{le-ltb, lt-ltb}
 use lib.Dec.{ltb}
 use Rattle.body.specs.Levels.{isFinite}
-use Rattle.body.specs.Lists.{each}
+use Rattle.num.specs.Choice.{each}
+use Rattle.num.proofs.Tests.{each-next, each-stop}
 use Rattle.body.specs.Groups.{gainAt}
 use Rattle.body.proofs.Floats.{finite-bits}
-use Rattle.body.proofs.Lists.{each-next, each-stop}
 use Rattle.body.proofs.group.good_gains.Statement.{statement}
 use Rattle.body.proofs.group.good_gains.Tie as tie
 

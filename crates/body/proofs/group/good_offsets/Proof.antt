@@ -8,10 +8,10 @@ use lib.IntN.{pos}
 use lib.Signed.{leZ, ltZ}
 use mir.Syntax.{w32}
 use mir.Val.{toZ, ofZ}
-use Rattle.body.specs.Lists.{each}
+use Rattle.num.specs.Choice.{each}
+use Rattle.num.proofs.Tests.{each-next, each-stop}
 use Rattle.body.specs.Groups.{offsetAt}
 use Rattle.body.proofs.Laws.{at-most}
-use Rattle.body.proofs.Lists.{each-next, each-stop}
 use Rattle.body.proofs.group.good_offsets.Statement.{statement}
 use Rattle.body.proofs.group.good_offsets.Tie as tie
 

@@ -7,10 +7,11 @@ use lib.IntN.{pos, natAbs}
 use lib.Signed.{leZ}
 use mir.Syntax.{w32}
 use mir.Val.{toZ}
+use Rattle.num.proofs.Tests.{each-at}
 use Rattle.body.specs.Lists.{sixteen}
 use Rattle.body.specs.Groups.{offsetAt}
 use Rattle.body.proofs.Laws.{natural-pattern}
-use Rattle.body.proofs.Lists.{each-at, upto-none, upto-next}
+use Rattle.body.proofs.Lists.{upto-none, upto-next}
 use Rattle.body.proofs.group.offsets.Statement.{statement}
 use Rattle.body.proofs.group.offsets.Tie as tie
 
