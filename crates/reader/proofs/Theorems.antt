@@ -114,13 +114,13 @@ module _ (o : Order) (s : List ℕ) (c : Cursor) (h : c .place < length s) where
   one-by NoSync e = skip-one (rw e)
   one-by Bad e = skip-one (rw e)
 
-  one : Fit c → let t : Step = stepOf o s c in ahead o s c ≡ told (t .item) (t .shown) (ahead o s (t .cursor))
+  pub one : Fit c → let t : Step = stepOf o s c in ahead o s c ≡ told (t .item) (t .shown) (ahead o s (t .cursor))
   one f = rw (step-ahead o s c h f) (one-by (shows o (drop (c .place) s)) refl)
 
 -- the cursor moves on, and not past the end
-record Goes (s : List ℕ) (c d : Cursor) : Type 0 where
-  on : c .place < d .place
-  within : d .place ≤ length s
+pub record Goes (s : List ℕ) (c d : Cursor) : Type 0 where
+  pub on : c .place < d .place
+  pub within : d .place ≤ length s
 
 passed-on : (o : Order) (s : List ℕ) (c : Cursor) → c .place < length s → stops (shows o (drop (c .place) s)) ≡ false → Goes s c (skips c (gap o (drop (c .place) s)) .cursor)
 passed-on o s c h k =
@@ -133,7 +133,7 @@ goes-by o s c Unfinished e h = let n = length-drop (c .place) s in record { on =
 goes-by o s c NoSync e h = passed-on o s c h (rw e)
 goes-by o s c Bad e h = passed-on o s c h (rw e)
 
-goes : (o : Order) (s : List ℕ) (c : Cursor) → Fit c → c .place < length s → Goes s c (stepOf o s c .cursor)
+pub goes : (o : Order) (s : List ℕ) (c : Cursor) → Fit c → c .place < length s → Goes s c (stepOf o s c .cursor)
 goes o s c f h = rw (step-ahead o s c h f) (goes-by o s c (shows o (drop (c .place) s)) refl h)
 
 -- steps from a cursor that is fit give what is ahead of it

@@ -1,0 +1,427 @@
+//! The library's compiled code against the second program's and against what the machine can do at most, as a table.
+
+mod inputs;
+mod ours;
+mod race;
+
+use inputs::{CHANNELS, MIB, SAMPLES};
+use ours::Number;
+use race::{race, ratio, spread, Run, Spread, Times};
+use second::frame::{look, Look};
+use second::write::write_record;
+use second::{count_items, search, Item, Kind, Order, Reader, Ready, Verdict};
+use std::io::BufRead;
+
+/// Measured times of one work.
+struct Row {
+    work: String,
+    bytes: usize,
+    ours: Times,
+    rust: Times,
+    limit: Option<Times>,
+    plain: Option<Times>,
+}
+
+fn main() {
+    let mut rows = Vec::new();
+    steps(&mut rows);
+    searches(&mut rows);
+    copies(&mut rows);
+    texts(&mut rows);
+    writes(&mut rows);
+    let growth = growths(&mut rows);
+    table(&rows);
+    println!();
+    grown(&growth);
+}
+
+/// Runs the contestants, the library's first and the second program's next, once all of them agree.
+fn same(work: &str, contestants: &mut [Run]) -> Vec<Times> {
+    let answers: Vec<usize> = contestants.iter_mut().map(|run| run()).collect();
+    assert!(
+        answers.iter().all(|a| *a == answers[0]),
+        "{work}: {answers:?}"
+    );
+    eprintln!("{work}");
+    race(contestants)
+}
+
+fn row(rows: &mut Vec<Row>, work: String, bytes: usize, mut contestants: Vec<Run>) {
+    let mut times = same(&work, &mut contestants).into_iter();
+    rows.push(Row {
+        work,
+        bytes,
+        ours: times.next().expect("the library runs"),
+        rust: times.next().expect("the second program runs"),
+        limit: times.next(),
+        plain: times.next(),
+    });
+}
+
+/// How many items are good, unknown or ready.
+fn sound(order: Order, s: &[u8]) -> usize {
+    let sound = |item: &Item| {
+        matches!(
+            item,
+            Item::Chunk {
+                verdict: Verdict::Unknown | Verdict::Plain(_) | Verdict::Ready(_),
+                ..
+            }
+        )
+    };
+    Reader::new(order, s).filter(sound).count()
+}
+
+fn steps(rows: &mut Vec<Row>) {
+    for order in [Order::Big, Order::Little] {
+        for (what, s) in [
+            ("small meta chunks", inputs::small(order, MIB)),
+            ("large data chunks", inputs::large(order, 16 * MIB)),
+        ] {
+            let work = format!("step, {what}, {}", order.name());
+            let ours = || ours::step(order, &s);
+            let rust = || sound(order, &s);
+            row(rows, work, s.len(), vec![Box::new(ours), Box::new(rust)]);
+        }
+    }
+}
+
+/// The search with the C library's memchr, which std has behind `skip_until`.
+fn by_memchr(order: Order, s: &[u8]) -> usize {
+    let first = order.sync()[0];
+    let mut at = 0;
+    loop {
+        let mut rest = &s[at..];
+        let passed = rest.skip_until(first).expect("a slice can be read");
+        at += passed;
+        if passed == 0 || s[at - 1] != first {
+            return s.len();
+        }
+        if let Look::Complete(_) | Look::Unfinished = look(order, s, at - 1) {
+            return at - 1;
+        }
+    }
+}
+
+/// The search with the iterators of slices.
+fn by_windows(order: Order, s: &[u8]) -> usize {
+    let word = order.sync();
+    let stops = |p: &usize| matches!(look(order, s, *p), Look::Complete(_) | Look::Unfinished);
+    let places = s.windows(4).enumerate().filter(|(_, w)| *w == word);
+    places.map(|(p, _)| p).find(stops).unwrap_or(s.len())
+}
+
+/// The search place by place, byte by byte.
+fn by_bytes(order: Order, s: &[u8]) -> usize {
+    let word = order.sync();
+    let mut p = 0;
+    while p + 4 <= s.len() {
+        let mut k = 0;
+        while k < 4 && s[p + k] == word[k] {
+            k += 1;
+        }
+        if k == 4 {
+            if let Look::Complete(_) | Look::Unfinished = look(order, s, p) {
+                return p;
+            }
+        }
+        p += 1;
+    }
+    s.len()
+}
+
+fn searches(rows: &mut Vec<Row>) {
+    let order = Order::Big;
+    for (what, s) in inputs::noise(4 * MIB) {
+        let work = format!("search, {what}");
+        let ours = || ours::search(order, &s, 0);
+        let rust = || search(order, &s, 0).unwrap_or(s.len());
+        let mut contestants: Vec<Run> = vec![
+            Box::new(ours),
+            Box::new(rust),
+            Box::new(|| by_memchr(order, &s)),
+            Box::new(|| by_windows(order, &s)),
+            Box::new(|| by_bytes(order, &s)),
+        ];
+        let mut times = same(&work, &mut contestants);
+        let plain = times.pop();
+        // The faster of the two is the limit.
+        times[2..].sort_by(|a, b| middle(a).middle.total_cmp(&middle(b).middle));
+        let mut times = times.into_iter();
+        let (ours, rust) = (times.next().expect("first"), times.next().expect("second"));
+        let limit = times.next();
+        rows.push(Row {
+            work,
+            bytes: s.len(),
+            ours,
+            rust,
+            limit,
+            plain,
+        });
+    }
+}
+
+fn middle(times: &Times) -> Spread {
+    spread(times.iter().copied())
+}
+
+/// The first ready chunk of a stream.
+fn ready(order: Order, s: &[u8]) -> Ready<'_> {
+    Reader::new(order, s)
+        .find_map(|item| match item {
+            Item::Chunk {
+                verdict: Verdict::Ready(ready),
+                ..
+            } => Some(ready),
+            _ => None,
+        })
+        .expect("the stream has a ready chunk")
+}
+
+/// One channel of a stream of a few metas and one large chunk. The library's call steps over the metas first; that time is
+/// measured beside it and taken off.
+fn copying<T: Number>(
+    rows: &mut Vec<Row>,
+    work: String,
+    order: Order,
+    metas: &[u8],
+    s: &[u8],
+    channel: usize,
+) {
+    let steps = count_items(order, metas);
+    let ready = ready(order, s);
+    let n = ready.numbers();
+    let bytes = n * size_of::<T>();
+    let samples = &ready.samples[..bytes];
+    let mut ours = vec![T::default(); n + 1];
+    let mut rust = ours.clone();
+    assert_eq!(T::copy(order, s, steps, channel, &mut ours), n, "{work}");
+    assert_eq!(T::copy_ready(&ready, channel, &mut rust), n, "{work}");
+    assert!(ours == rust, "{work}: other numbers");
+    let mut plain = vec![0; bytes];
+    let limit = || {
+        plain.copy_from_slice(std::hint::black_box(samples));
+        n
+    };
+    let mut contestants: Vec<Run> = vec![
+        Box::new(|| T::copy(order, s, steps, channel, &mut ours)),
+        Box::new(|| T::copy_ready(&ready, channel, &mut rust)),
+        Box::new(limit),
+    ];
+    let mut times = same(&work, &mut contestants).into_iter();
+    let stepping = spread(
+        race(&mut [Box::new(|| ours::step(order, metas))])[0]
+            .iter()
+            .copied(),
+    );
+    let ours = times.next().expect("first");
+    rows.push(Row {
+        work,
+        bytes,
+        ours: ours.iter().map(|t| t - stepping.middle).collect(),
+        rust: times.next().expect("second"),
+        limit: times.next(),
+        plain: None,
+    });
+}
+
+fn copies(rows: &mut Vec<Row>) {
+    let apart = |pairs: usize| -> Vec<i32> {
+        (0..CHANNELS)
+            .map(|c| (c * pairs / CHANNELS) as i32)
+            .collect()
+    };
+    let turns: Vec<i32> = (0..CHANNELS as i32).collect();
+    let n = CHANNELS as i32;
+    let (shorts, floats) = (SAMPLES / 4, SAMPLES / 8);
+    let kinds = [
+        ("16-bit pairs", Kind::Ssnc, true, 1, vec![0], 0),
+        ("16-bit pairs, Q first", Kind::Ssnc, false, 1, vec![0], 0),
+        ("16-bit reals", Kind::Ssnr, true, 1, vec![0], 0),
+        (
+            "16-bit group, increment 1",
+            Kind::Gsnc,
+            true,
+            1,
+            apart(shorts),
+            1,
+        ),
+        (
+            "16-bit group, increment 4",
+            Kind::Gsnc,
+            true,
+            n,
+            turns.clone(),
+            1,
+        ),
+        ("float pairs", Kind::Sfnc, true, 1, vec![0], 0),
+        ("float pairs, Q first", Kind::Sfnc, false, 1, vec![0], 0),
+        ("float reals", Kind::Sfnr, true, 1, vec![0], 0),
+        (
+            "float group, increment 1",
+            Kind::Gfnc,
+            true,
+            1,
+            apart(floats),
+            1,
+        ),
+        ("float group, increment 4", Kind::Gfnc, true, n, turns, 1),
+    ];
+    for order in [Order::Little, Order::Big] {
+        for (what, kind, iq, increment, offsets, channel) in &kinds {
+            let work = format!("copy, {what}, {}", order.name());
+            let mut stream = inputs::metas(order, *iq, *increment, offsets);
+            let metas = stream.bytes().to_vec();
+            let numbers: Vec<u32> = (0..SAMPLES as u32 / 4)
+                .map(|k| k.wrapping_mul(0x9E37_79B9))
+                .collect();
+            stream.patterns(*kind, 5, &numbers);
+            let s = stream.bytes();
+            match kind {
+                Kind::Ssnc | Kind::Ssnr | Kind::Gsnc => {
+                    copying::<i16>(rows, work, order, &metas, s, *channel)
+                }
+                _ => copying::<u32>(rows, work, order, &metas, s, *channel),
+            }
+        }
+    }
+}
+
+fn texts(rows: &mut Vec<Row>) {
+    let order = Order::Big;
+    for (what, body) in inputs::texts(order) {
+        let ours = || ours::text(order, &body) as usize;
+        let rust = || second::check_text(order, &body).map_or(1, |_| 0);
+        row(
+            rows,
+            format!("TEXT, {what}"),
+            body.len(),
+            vec![Box::new(ours), Box::new(rust)],
+        );
+    }
+}
+
+/// Every chunk of a stream as a record.
+fn records(order: Order, s: &[u8]) -> Vec<(u32, &[u8])> {
+    Reader::new(order, s)
+        .filter_map(|item| match item {
+            Item::Chunk { frame, .. } => Some((frame.code, frame.body(s))),
+            _ => None,
+        })
+        .collect()
+}
+
+fn writes(rows: &mut Vec<Row>) {
+    for order in [Order::Little, Order::Big] {
+        for (what, s) in [
+            ("small records", inputs::small(order, MIB / 16)),
+            ("large records", inputs::large(order, MIB / 2)),
+        ] {
+            let work = format!("write, {what}, {}", order.name());
+            let records = records(order, &s);
+            let mut ours = vec![0; s.len()];
+            let mut rust = Vec::with_capacity(s.len());
+            let mut plain = vec![0; s.len()];
+            let write = |ours: &mut [u8]| {
+                records.iter().fold(0, |place, (code, body)| {
+                    ours::write(order, *code, body, ours, place)
+                })
+            };
+            assert_eq!(write(&mut ours), s.len(), "{work}");
+            assert!(ours == s, "{work}: other bytes");
+            let contestants: Vec<Run> = vec![
+                Box::new(|| write(&mut ours)),
+                Box::new(|| {
+                    rust.clear();
+                    for (code, body) in &records {
+                        write_record(order, *code, body, &mut rust).expect("a record of a stream");
+                    }
+                    rust.len()
+                }),
+                Box::new(|| {
+                    plain.copy_from_slice(std::hint::black_box(&s));
+                    s.len()
+                }),
+            ];
+            row(rows, work, s.len(), contestants);
+        }
+    }
+}
+
+/// Times of one work on streams of growing size, in MiB.
+struct Growth {
+    work: &'static str,
+    times: Vec<(usize, Spread)>,
+}
+
+fn growths(rows: &mut Vec<Row>) -> Vec<Growth> {
+    let order = Order::Big;
+    let sizes = [1, 4, 16, 64, 256];
+    let whole = inputs::mixed(order, 256 * MIB);
+    let noise = &inputs::noise(256 * MIB)[0].1;
+    row(
+        rows,
+        "count the items of 256 MiB".into(),
+        whole.len(),
+        vec![
+            Box::new(|| ours::count(order, &whole)),
+            Box::new(|| count_items(order, &whole)),
+        ],
+    );
+    let grow = |work, run: &dyn Fn(usize) -> usize| Growth {
+        work,
+        times: sizes
+            .map(|mib| {
+                (
+                    mib,
+                    spread(race(&mut [Box::new(|| run(mib * MIB))])[0].iter().copied()),
+                )
+            })
+            .to_vec(),
+    };
+    vec![
+        grow("count", &|n| ours::count(order, &whole[..n])),
+        grow("step", &|n| ours::step(order, &whole[..n])),
+        grow("search", &|n| ours::search(order, &noise[..n], 0)),
+    ]
+}
+
+fn told(spread: Option<Spread>) -> String {
+    spread.map_or("".into(), |s| {
+        format!("{:.2} ({:.2}..{:.2})", s.middle, s.least, s.most)
+    })
+}
+
+fn table(rows: &[Row]) {
+    println!("| work | bytes | µs | MB/s | ours / Rust | ours / limit | ours / byte loop |");
+    println!("| --- | ---: | ---: | ---: | --- | --- | --- |");
+    for row in rows {
+        let one = middle(&row.ours).middle;
+        println!(
+            "| {} | {} | {:.1} | {:.0} | {} | {} | {} |",
+            row.work,
+            row.bytes,
+            one * 1e6,
+            row.bytes as f64 / one / 1e6,
+            told(Some(ratio(&row.ours, &row.rust))),
+            told(row.limit.as_ref().map(|limit| ratio(&row.ours, limit))),
+            told(row.plain.as_ref().map(|plain| ratio(&row.ours, plain))),
+        );
+    }
+}
+
+fn grown(growth: &[Growth]) {
+    println!("| ms, and ns for each KiB | 1 MiB | 4 MiB | 16 MiB | 64 MiB | 256 MiB |");
+    println!("| --- | --- | --- | --- | --- | --- |");
+    for g in growth {
+        print!("| {} |", g.work);
+        for (mib, time) in &g.times {
+            print!(
+                " {:.3}, {:.1} |",
+                time.middle * 1e3,
+                time.middle * 1e9 / (*mib as f64 * 1024.0)
+            );
+        }
+        println!();
+    }
+}

@@ -1,0 +1,38 @@
+-- The copying of 32-bit patterns, at the cursor that the steps lead to.
+use mathlib.Core.Path.{ap, _∙_}
+use Rattle.bench.specs.Plain.{given}
+use borrow.Author.Needs.{needs}
+use Rattle.bench.proofs.bench_patterns.Statement.{statement}
+use Rattle.bench.proofs.bench_patterns.Tie as tie
+
+order-by-requires : tie.Need-order-by-requires
+order-by-requires c κs = search needs
+
+stepped-requires : tie.Need-stepped-requires
+stepped-requires c κs = search needs
+
+copy-requires : tie.Need-copy-requires
+copy-requires c κs = search needs
+
+count-of-requires : tie.Need-count-of-requires
+count-of-requires c κs = search needs
+
+same-length : tie.Need-same-length
+same-length c = search needs
+
+returns : tie.Need-returns
+returns c =
+    let k = c .before .before .before in
+    let e = k .copy .ensures in
+    rw (← k .before .before .before .order-by .ensures, ← k .before .before .stepped .ensures) (c .count-of .ensures ∙ ap given (e .0), e .1)
+
+pub bench-patterns-spec : {M : Type 1} → statement M
+bench-patterns-spec =
+    tie.close
+    (tie.spec
+    order-by-requires
+    stepped-requires
+    copy-requires
+    count-of-requires
+    same-length
+    returns)

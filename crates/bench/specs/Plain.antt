@@ -1,0 +1,64 @@
+-- Answers as plain numbers, for a caller that takes no others.
+use Prim.Native.Nat.{ℕ, zero, suc, _+_}
+use mathlib.Core.List.{List, [], _∷_}
+use lib.Dec.{eqb}
+use Rattle.num.specs.Answer.{Answer, gives, refuses}
+use Rattle.num.specs.Choice.{pick}
+use Rattle.num.specs.declared.Order.{Order}
+use Rattle.num.specs.declared.Order.the-variants.{Big, Little}
+use Rattle.effect.specs.Says.{Says, ok, unknown, bad, waits, ready}
+use Rattle.frame.specs.declared.Found.{Found}
+use Rattle.frame.specs.declared.Found.the-variants.{Place, Nothing}
+use Rattle.reader.specs.Item.{Item, end, skipped, unfinished, chunk}
+use Rattle.reader.specs.Items.{Given}
+use Rattle.reader.specs.Step.{newCursor, stepOf}
+use Rattle.reader.specs.declared.Cursor.{Cursor}
+
+-- the order by its number: 0 is big, any other little
+abbrev pub orderBy : ℕ → Order
+orderBy n = pick (eqb n 0) Big Little
+
+-- the number that is given, 0 on a refusal
+abbrev pub given : Answer ℕ → ℕ
+given (gives n) = n
+given (refuses k) = 0
+
+-- the number of a refusal, 0 where something is given
+abbrev pub refusal : {A : Type 0} → Answer A → ℕ
+refusal (gives a) = 0
+refusal (refuses k) = k
+
+-- where a search stopped, or the end
+abbrev pub placeOr : ℕ → Found → ℕ
+placeOr stop (Place p) = p
+placeOr stop Nothing = stop
+
+-- 1 for a chunk that is good, unknown or ready, 0 for any other
+abbrev pub sound : Says → ℕ
+sound ok = 1
+sound unknown = 1
+sound (bad n) = 0
+sound (waits n t) = 0
+sound (ready d) = 1
+
+-- the same of an item, 0 where it is no chunk
+abbrev pub soundItem : Item → ℕ
+soundItem end = 0
+soundItem (skipped p n) = 0
+soundItem (unfinished p n) = 0
+soundItem (chunk p code size says) = sound says
+
+-- and of what a step answers
+abbrev pub soundIn : Answer Item → ℕ
+soundIn (gives i) = soundItem i
+soundIn (refuses k) = 0
+
+-- how many items of a list are sound
+unfoldable pub soundCount : List Given → ℕ
+soundCount [] = 0
+soundCount (g ∷ rest) = soundItem (g .item) + soundCount rest
+
+-- the cursor after so many steps from a new one
+unfoldable pub after : Order → List ℕ → ℕ → Cursor
+after o s zero = newCursor
+after o s (suc n) = stepOf o s (after o s n) .cursor

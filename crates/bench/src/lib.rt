@@ -1,0 +1,206 @@
+// The library's work behind plain numbers and slices, for a program that measures it.
+ghost use mathlib.Core.Path.{_≡_};
+ghost use mathlib.Core.Bool.{true, false};
+ghost use lib.ListN.{length};
+ghost use Rattle.body.specs.Plain.{text, textSaid};
+ghost use Rattle.effect.specs.Says.{verdictSaid};
+ghost use Rattle.copy.specs.Samples.{shortAt, patternAt};
+ghost use Rattle.frame.specs.Place.{searchFrom};
+ghost use Rattle.reader.specs.Item.{itemSaid};
+ghost use Rattle.reader.specs.Items.{items};
+ghost use Rattle.samples.specs.Copy.{copiedSaid, layoutAt, countOf, samplesAt, filled};
+ghost use Rattle.writer.specs.Write.{writeOf, writtenOut, writtenSaid};
+ghost use Rattle.bench.specs.Plain.{orderBy, given, refusal, placeOr, sound, soundIn, soundCount, after};
+use body::plain::TextRead;
+use effect::Verdict;
+use frame::Found;
+use num::Order;
+use reader::Cursor;
+use reader::Item;
+use samples::Copied;
+use writer::Written;
+
+// The order by its number: 0 is big, any other little.
+fn order_by(number: u32) -> Order
+    ensures { λ r. ⌜ r ≡ orderBy number ⌝ }
+{
+    if number == 0 {
+        Order::Big
+    } else {
+        Order::Little
+    }
+}
+
+// How many items a stream has.
+#[no_mangle]
+pub extern "C" fn bench_count(order: u32, s: &[u8]) -> usize
+    ensures { λ r. ⌜ r ≡ length (items (orderBy order) (now (s .entry))) ⌝ }
+{
+    reader::count(order_by(order), s)
+}
+
+// 1 for a chunk that is good, unknown or ready, 0 for any other.
+fn sound(verdict: Verdict) -> usize
+    ensures { λ r. ⌜ r ≡ sound (verdictSaid verdict) ⌝ }
+{
+    match verdict {
+        Verdict::Good => 1,
+        Verdict::Unknown => 1,
+        Verdict::Ready(_) => 1,
+        Verdict::Malformed(_) => 0,
+        Verdict::NotCovered => 0,
+        Verdict::Waits(_, _) => 0,
+    }
+}
+
+// The same of an item, 0 where it is no chunk.
+fn sound_in(item: Item) -> usize
+    ensures { λ r. ⌜ r ≡ soundIn (itemSaid item) ⌝ }
+{
+    match item {
+        Item::Chunk {
+            place: _,
+            code: _,
+            size: _,
+            verdict,
+        } => sound(verdict),
+        Item::PastEnd => 0,
+        Item::BadState => 0,
+        Item::End => 0,
+        Item::Skipped {
+            place: _,
+            length: _,
+        } => 0,
+        Item::Unfinished {
+            place: _,
+            length: _,
+        } => 0,
+    }
+}
+
+// How many items of a stream are sound, found by a step for each item.
+#[no_mangle]
+pub extern "C" fn bench_step(order: u32, s: &[u8]) -> usize
+    ensures { λ r. ⌜ r ≡ soundCount (items (orderBy order) (now (s .entry))) ⌝ }
+{
+    let by = order_by(order);
+    let mut cursor = Cursor::new();
+    let mut n = 0;
+    while cursor.place < s.len() {
+        let stepped = cursor.step(by, s);
+        let item = stepped.item;
+        let next = stepped.cursor;
+        n += sound_in(item);
+        cursor = next;
+    }
+    n
+}
+
+// Where a search stops, the end where it does not.
+#[no_mangle]
+pub extern "C" fn bench_search(order: u32, s: &[u8], from: usize) -> usize
+    ensures { λ r. ⌜ r ≡ placeOr (length (now (s .entry))) (searchFrom (orderBy order) (now (s .entry)) from) ⌝ }
+{
+    match frame::search(order_by(order), s, from) {
+        Found::Place(p) => p,
+        Found::Nothing => s.len(),
+    }
+}
+
+// What is wrong with the body of a TEXT chunk, by its number; 0 where nothing is.
+#[no_mangle]
+pub extern "C" fn bench_text(order: u32, body: &[u8]) -> u32
+    ensures { λ r. ⌜ r ≡ refusal (text (orderBy order) (now (body .entry))) ⌝ }
+{
+    match body::plain::text(order_by(order), body) {
+        TextRead::Is(_) => 0,
+        TextRead::Malformed(f) => body::fault::number_of(f),
+    }
+}
+
+fn next_of(written: Written) -> usize
+    ensures { λ r. ⌜ r ≡ given (writtenSaid written) ⌝ }
+{
+    match written {
+        Written::Next(place) => place,
+        Written::PastEnd => 0,
+        Written::BadSize => 0,
+        Written::Malformed(_) => 0,
+        Written::NoRoom => 0,
+    }
+}
+
+// A record written at a place of out: the place past it, 0 where nothing is written.
+#[no_mangle]
+pub extern "C" fn bench_write(
+    order: u32,
+    code: u32,
+    body: &[u8],
+    out: &mut [u8],
+    place: usize,
+) -> usize
+    ensures { λ r. ⌜ r ≡ given (writeOf (orderBy order) code (now (body .entry)) (length (now (out .entry))) place) ⌝ }
+    ensures { λ _. ⌜ now (out .exit) ≡ writtenOut (orderBy order) code (now (body .entry)) (now (out .entry)) place ⌝ }
+{
+    next_of(writer::write(order_by(order), code, body, out, place))
+}
+
+// The cursor after so many steps from a new one.
+fn stepped(order: Order, s: &[u8], steps: usize) -> Cursor
+    ensures { λ r. ⌜ r ≡ after order (now (s .entry)) steps ⌝ }
+{
+    let mut cursor = Cursor::new();
+    let mut k = 0;
+    while k < steps {
+        let one = cursor.step(order, s);
+        let next = one.cursor;
+        cursor = next;
+        k += 1;
+    }
+    cursor
+}
+
+fn count_of(copied: Copied) -> usize
+    ensures { λ r. ⌜ r ≡ given (copiedSaid copied) ⌝ }
+{
+    match copied {
+        Copied::Count(n) => n,
+        Copied::PastEnd => 0,
+        Copied::BadState => 0,
+        Copied::NotReady => 0,
+        Copied::NoChannel => 0,
+        Copied::TooShort => 0,
+    }
+}
+
+// The 16-bit numbers of a channel, out of the chunk that so many steps lead to: how many were copied.
+#[no_mangle]
+pub extern "C" fn bench_shorts(
+    order: u32,
+    s: &[u8],
+    steps: usize,
+    channel: usize,
+    out: &mut [i16],
+) -> usize
+    ensures { λ r. ⌜ r ≡ given (countOf false (orderBy order) (now (s .entry)) (after (orderBy order) (now (s .entry)) steps) channel (length (now (out .entry)))) ⌝ }
+    ensures { λ _. ⌜ now (out .exit) ≡ filled (countOf false (orderBy order) (now (s .entry)) (after (orderBy order) (now (s .entry)) steps) channel (length (now (out .entry)))) (layoutAt false (orderBy order) (now (s .entry)) (after (orderBy order) (now (s .entry)) steps) channel) (shortAt (orderBy order) (samplesAt (orderBy order) (now (s .entry)) (after (orderBy order) (now (s .entry)) steps))) (now (out .entry)) ⌝ }
+{
+    let by = order_by(order);
+    count_of(samples::shorts::copy(by, s, stepped(by, s, steps), channel, out))
+}
+
+// The same of 32-bit patterns.
+#[no_mangle]
+pub extern "C" fn bench_patterns(
+    order: u32,
+    s: &[u8],
+    steps: usize,
+    channel: usize,
+    out: &mut [u32],
+) -> usize
+    ensures { λ r. ⌜ r ≡ given (countOf true (orderBy order) (now (s .entry)) (after (orderBy order) (now (s .entry)) steps) channel (length (now (out .entry)))) ⌝ }
+    ensures { λ _. ⌜ now (out .exit) ≡ filled (countOf true (orderBy order) (now (s .entry)) (after (orderBy order) (now (s .entry)) steps) channel (length (now (out .entry)))) (layoutAt true (orderBy order) (now (s .entry)) (after (orderBy order) (now (s .entry)) steps) channel) (patternAt (orderBy order) (samplesAt (orderBy order) (now (s .entry)) (after (orderBy order) (now (s .entry)) steps))) (now (out .entry)) ⌝ }
+{
+    let by = order_by(order);
+    count_of(samples::patterns::copy(by, s, stepped(by, s, steps), channel, out))
+}
