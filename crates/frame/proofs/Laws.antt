@@ -5,7 +5,7 @@ use mathlib.Core.List.{List, [], _∷_, _++_}
 use mathlib.Core.Bool.{Bool, true, false}
 use native.Mathlib.Numerals.{add-one}
 use native.Mathlib.Omega.{arith}
-use lib.ListN.{length, getD, drop, take, length-drop, take-append-drop}
+use lib.ListN.{length, getD, drop, take, length-drop, take-append-drop, drop-of-length-le}
 use lib.Seq.{drop-cons, drop-drop, getD-drop, length-take-le, take-append-seam}
 use lib.Dec.{eqb, leb, ltb}
 use borrow.Author.Tests.{eq-eqb, eqb-true, lt-ltb, le-ltb, ltb-true, ltb-false}
@@ -27,7 +27,7 @@ use Rattle.frame.specs.Place.{syncBytes, starts, word, typeIn, sizeIn, g
 
 -- ---- the front of a list
 
-never-true : (b : Bool) → (b ≡ true → ⊥) → b ≡ false
+pub never-true : (b : Bool) → (b ≡ true → ⊥) → b ≡ false
 never-true true h = absurd (h refl)
 never-true false h = refl
 
@@ -58,6 +58,11 @@ unfolding starts
 starts-step w s p k hw hs =
     let e : p + (k + 1) ≡ suc (p + k) = omega arith in
     rw (e, drop-cons w k 0 hw, drop-cons s (p + k) 0 hs, add-one k)
+
+-- and a comparison that is through
+pub starts-done : (w l : List ℕ) (k : ℕ) → length w ≤ k → starts (drop k w) l ≡ true
+unfolding starts
+starts-done w l k h = rw (drop-of-length-le w {i = k} h)
 
 -- ---- the sync word, as bytes and as a number
 
@@ -136,7 +141,7 @@ pub gap-pass : (o : Order) (x : ℕ) (l : List ℕ) → stops (shows o (x ∷ l)
 unfolding gap
 gap-pass o x l h = rw h
 
-none-passes : (o : Order) (l : List ℕ) → starts (syncBytes o) l ≡ false → stops (shows o l) ≡ false
+pub none-passes : (o : Order) (l : List ℕ) → starts (syncBytes o) l ≡ false → stops (shows o l) ≡ false
 none-passes o l b = rw (shows-none o l b)
 
 -- too few bytes for a sync word are passed over whole

@@ -1,3 +1,4 @@
 pub mod Laws
+pub mod Free
 pub mod Frames
 pub mod Theorems

@@ -1,2 +1,3 @@
 pub mod Place
 pub mod Frames
+pub mod Free

@@ -1,8 +1,10 @@
 // Frames: the sync word, what a stream shows at a place, the search, and finding the byte order.
 ghost use mathlib.Core.Path.{_≡_};
-ghost use Prim.Native.Nat.{_≤_};
+ghost use mathlib.Core.Bool.{true};
+ghost use Prim.Native.Nat.{_+_, _≤_, _<_};
 ghost use lib.ListN.{length, drop};
 ghost use Rattle.num.specs.Number.{bytesOf};
+ghost use Rattle.frame.specs.Free.{Free};
 ghost use Rattle.frame.specs.Place.{syncBytes, starts, goodSize, shows, searchFrom, orderOf, orderSaid};
 use num::Order;
 
@@ -45,20 +47,12 @@ pub fn good_size(size: usize) -> bool
     (size <= LIMIT) & (size % 4 == 0)
 }
 
-// What the stream shows at a place; no sync at the end and past it.
-pub fn look(order: Order, s: &[u8], place: usize) -> At
+// What the stream shows at a place where the sync word stands.
+fn headed(order: Order, s: &[u8], place: usize) -> At
+    requires { ⌜ (place + 4 ≤ length (now s)) × (starts (syncBytes order) (drop place (now s)) ≡ true) ⌝ }
     ensures { λ r. ⌜ r ≡ shows order (drop place (now (s .entry))) ⌝ }
 {
-    if s.len() < place {
-        return At::NoSync;
-    }
     let left = s.len() - place;
-    if left < 4 {
-        return At::NoSync;
-    }
-    if num::u32_at(order, s, place) != SYNC {
-        return At::NoSync;
-    }
     if left < HEADER {
         return At::Unfinished;
     }
@@ -73,6 +67,86 @@ pub fn look(order: Order, s: &[u8], place: usize) -> At
     At::Complete { code, size }
 }
 
+// What the stream shows at a place; no sync at the end and past it.
+pub fn look(order: Order, s: &[u8], place: usize) -> At
+    ensures { λ r. ⌜ r ≡ shows order (drop place (now (s .entry))) ⌝ }
+{
+    if s.len() < place {
+        return At::NoSync;
+    }
+    if s.len() - place < 4 {
+        return At::NoSync;
+    }
+    if num::u32_at(order, s, place) != SYNC {
+        return At::NoSync;
+    }
+    headed(order, s, place)
+}
+
+// Whether no place of the 64 from p on has the bytes a and b in front. The loop has no early way out, so that many bytes are
+// compared at a time.
+fn free64(s: &[u8], p: usize, a: u8, b: u8) -> bool
+    requires { ⌜ p + 65 ≤ length (now s) ⌝ }
+    ensures { λ r. ⌜ (r ≡ true → Free (now (s .entry)) a b p (p + 64)) ⌝ }
+{
+    let mut hit = false;
+    let mut k = 0;
+    while k < 64 {
+        let i = p + k;
+        hit = hit | ((s[i] == a) & (s[i + 1] == b));
+        k += 1;
+    }
+    !hit
+}
+
+// The first place from `from` on and below `to` that has the bytes a and b in front, or `to`.
+fn near(s: &[u8], from: usize, to: usize, a: u8, b: u8) -> usize
+    requires { ⌜ (from ≤ to) × (to < length (now s)) ⌝ }
+    ensures { λ r. ⌜ (from ≤ r) × (r ≤ to) × Free (now (s .entry)) a b from r ⌝ }
+{
+    let mut p = from;
+    while p < to {
+        if (s[p] == a) & (s[p + 1] == b) {
+            return p;
+        }
+        p += 1;
+    }
+    p
+}
+
+// So many places on, or the end where it is nearer.
+fn ahead(from: usize, end: usize, places: usize) -> usize
+    requires { ⌜ from ≤ end ⌝ }
+    ensures { λ r. ⌜ (from ≤ r) × (r ≤ end) ⌝ }
+{
+    if end - from < places {
+        end
+    } else {
+        from + places
+    }
+}
+
+// A place from `from` on, none before it having the bytes a and b in front: what is near is looked at place by place, then
+// whole blocks are passed over.
+fn pass(s: &[u8], from: usize, a: u8, b: u8) -> usize
+    requires { ⌜ from < length (now s) ⌝ }
+    ensures { λ r. ⌜ (from ≤ r) × (r < length (now (s .entry))) × Free (now (s .entry)) a b from r ⌝ }
+{
+    let end = s.len() - 1;
+    let first = ahead(from, end, 16);
+    let mut p = near(s, from, first, a, b);
+    if p < first {
+        return p;
+    }
+    while 64 <= end - p {
+        if !free64(s, p, a, b) {
+            return near(s, p, end, a, b);
+        }
+        p += 64;
+    }
+    near(s, p, end, a, b)
+}
+
 // The search: the first place from `from` on that is complete or unfinished, or that there is none.
 pub fn search(order: Order, s: &[u8], from: usize) -> Found
     ensures { λ r. ⌜ r ≡ searchFrom order (now (s .entry)) from ⌝ }
@@ -81,8 +155,11 @@ pub fn search(order: Order, s: &[u8], from: usize) -> Found
         return Found::Nothing;
     }
     let last = s.len() - 4;
+    if last < from {
+        return Found::Nothing;
+    }
     let word = num::u32_bytes(order, SYNC);
-    let mut p = from;
+    let mut p = pass(s, from, word[0], word[1]);
     'places: loop {
         if last < p {
             break Found::Nothing;
@@ -90,7 +167,7 @@ pub fn search(order: Order, s: &[u8], from: usize) -> Found
         let mut k = 0;
         'bytes: loop {
             if k == 4 {
-                match look(order, s, p) {
+                match headed(order, s, p) {
                     At::Complete { code: _, size: _ } | At::Unfinished => {
                         break 'places Found::Place(p)
                     }
@@ -102,7 +179,7 @@ pub fn search(order: Order, s: &[u8], from: usize) -> Found
             }
             k += 1;
         }
-        p += 1;
+        p = pass(s, p + 1, word[0], word[1]);
     }
 }
 

@@ -1,4 +1,5 @@
--- The place reached with the gap before the first stop is the same at each turn; a turn passes one place that is no stop.
+-- The place reached with the gap before the first stop is the same at each turn: a turn passes a place that is no stop, and
+-- what follows it up to the next place with the word's first two bytes in front.
 use Prim.Native.Nat.{_+_, _-_, _≤_}
 use mathlib.Core.Path.{_≡_, refl, sym, ap, _∙_}
 use mathlib.Core.Bool.{true, false}
@@ -11,7 +12,8 @@ use lib.Dec.{eqb}
 use lib.ListN.{length, drop, getD}
 use Rattle.num.specs.Choice.{both}
 use Rattle.frame.specs.Place.{starts, shows, stops, gap}
-use Rattle.frame.proofs.Laws.{sync-length, starts-step, shows-none, gap-step, search-none, search-here, stop-told, pass-told}
+use Rattle.frame.proofs.Laws.{sync-length, starts-step, starts-done, shows-none, gap-step, search-none, search-here, stop-told, pass-told}
+use Rattle.frame.proofs.Free.{free-to}
 use Rattle.frame.proofs.search.Statement.{statement}
 use Rattle.frame.proofs.search.Tie as tie
 
@@ -35,26 +37,50 @@ returns c =
 sub-last : tie.Need-sub-last Inv-bytes μ-bytes Inv-places μ-places
 sub-last c = search needs
 
+returns-2 : tie.Need-returns-2 Inv-bytes μ-bytes Inv-places μ-places
+returns-2 c =
+    let a = c .before .before .before .args in
+    sym (search-none (a .order) (a .s .now) (a .from) (a .from) (omega arith) refl)
+
 u32-bytes-requires : tie.Need-u32-bytes-requires Inv-bytes μ-bytes Inv-places μ-places
 u32-bytes-requires c κs = search needs
 
+array-read-pass : tie.Need-array-read-pass Inv-bytes μ-bytes Inv-places μ-places
+array-read-pass c = search needs
+
+array-read-pass-2 : tie.Need-array-read-pass-2 Inv-bytes μ-bytes Inv-places μ-places
+array-read-pass-2 c = search needs
+
+pass-requires : tie.Need-pass-requires Inv-bytes μ-bytes Inv-places μ-places
+pass-requires c κs = search needs
+
 places-holds : tie.Need-places-holds Inv-bytes μ-bytes Inv-places μ-places
-places-holds c = search needs
+places-holds c =
+    let a = c .before .before .before .before .before .args in
+    let w = c .before .u32-bytes in
+    let r = c .pass in
+    free-to (a .order) (a .s .now) (w .result) (a .from) (r .result) (w .ensures) (r .ensures .0) (omega arith) (r .ensures .2)
 
 bytes-holds : tie.Need-bytes-holds Inv-bytes μ-bytes Inv-places μ-places
 bytes-holds c = (omega arith, rw add-zero)
 
-look-requires : tie.Need-look-requires Inv-bytes μ-bytes Inv-places μ-places
-look-requires c κs = search needs
+headed-requires : tie.Need-headed-requires Inv-bytes μ-bytes Inv-places μ-places
+headed-requires c κs =
+    let h = c .before in
+    let w = h .before .before .before .before .u32-bytes in
+    let a = h .before .before .before .before .before .before .before .before .args in
+    let n : length (w .result) ≡ 4 = ap length (w .ensures) ∙ sync-length (a .order) in
+    let p = h .before .before .places .p in
+    (omega arith, rw (w .ensures) at (h .bytes .inv .1 ∙ starts-done (w .result) (drop (p + h .bytes .k) (a .s .now)) (h .bytes .k) (omega arith)))
 
-add-if4 : tie.Need-add-if4 Inv-bytes μ-bytes Inv-places μ-places
-add-if4 c = search needs
+add-if5 : tie.Need-add-if5 Inv-bytes μ-bytes Inv-places μ-places
+add-if5 c = search needs
 
-shared-slice-read-if4 : tie.Need-shared-slice-read-if4 Inv-bytes μ-bytes Inv-places μ-places
-shared-slice-read-if4 c = search needs
+shared-slice-read-if5 : tie.Need-shared-slice-read-if5 Inv-bytes μ-bytes Inv-places μ-places
+shared-slice-read-if5 c = search needs
 
-array-read-if4 : tie.Need-array-read-if4 Inv-bytes μ-bytes Inv-places μ-places
-array-read-if4 c = search needs
+array-read-if5 : tie.Need-array-read-if5 Inv-bytes μ-bytes Inv-places μ-places
+array-read-if5 c = search needs
 
 add-k : tie.Need-add-k Inv-bytes μ-bytes Inv-places μ-places
 add-k c = search needs
@@ -63,65 +89,77 @@ bytes-less : tie.Need-bytes-less Inv-bytes μ-bytes Inv-places μ-places
 bytes-less c = search needs
 
 -- one byte more of the comparison
-compared : (c : tie.Else3 Inv-bytes μ-bytes Inv-places μ-places) →
+compared : (c : tie.Else4 Inv-bytes μ-bytes Inv-places μ-places) →
     let h = c .before in
-    let w = h .before .before .before .u32-bytes .result in
-    let s = h .before .before .before .before .before .before .args .s .now in
+    let w = h .before .before .before .before .u32-bytes .result in
+    let s = h .before .before .before .before .before .before .before .before .args .s .now in
     let p = h .before .before .places .p in
     let k = h .bytes .k in
     starts w (drop p s) ≡ both (eqb (getD s (p + k) 0) (getD w k 0)) (starts (drop (k + 1) w) (drop (p + (k + 1)) s))
 compared c =
     let h = c .before in
-    let w = h .before .before .before .u32-bytes in
-    let a = h .before .before .before .before .before .before .args in
+    let w = h .before .before .before .before .u32-bytes in
+    let a = h .before .before .before .before .before .before .before .before .args in
     let n : length (w .result) ≡ 4 = ap length (w .ensures) ∙ sync-length (a .order) in
     h .bytes .inv .1 ∙ starts-step (w .result) (a .s .now) (h .before .before .places .p) (h .bytes .k) (omega arith) (omega arith)
 
 bytes-again : tie.Need-bytes-again Inv-bytes μ-bytes Inv-places μ-places
-bytes-again c = (omega arith, compared (c .before .before) ∙ rw (eq-eqb _ _ (c .if4 .left)))
+bytes-again c = (omega arith, compared (c .before .before) ∙ rw (eq-eqb _ _ (c .if5 .left)))
 
 -- the place that is left is no place to stop at
-passed : (c : tie.Joined3 Inv-bytes μ-bytes Inv-places μ-places) →
+passed : (c : tie.Joined4 Inv-bytes μ-bytes Inv-places μ-places) →
     let h = c .before in
-    let a = h .before .before .before .before .before .before .args in
+    let a = h .before .before .before .before .before .before .before .before .args in
     stops (shows (a .order) (drop (h .before .before .places .p) (a .s .now))) ≡ false
 passed c =
     let h = c .before in
-    let a = h .before .before .before .before .before .before .args in
-    let w = h .before .before .before .u32-bytes in
+    let a = h .before .before .before .before .before .before .before .before .args in
+    let w = h .before .before .before .before .u32-bytes in
     let l = drop (h .before .before .places .p) (a .s .now) in
     ⊎-elim
     (λ m. rw (m .1 .ensures) at (pass-told (m .1 .result) (m .2 .keys2)))
     (λ m.
-    let b : starts (w .result) l ≡ false = compared (record { before = h; if3 = m .0 }) ∙ rw (ne-eqb _ _ (m .2 .taken)) in
+    let b : starts (w .result) l ≡ false = compared (record { before = h; if4 = m .0 }) ∙ rw (ne-eqb _ _ (m .2 .taken)) in
     rw (shows-none (a .order) l (rw (w .ensures) at b)))
-    (c .if3 .came)
+    (c .if4 .came)
 
-add-p : tie.Need-add-p Inv-bytes μ-bytes Inv-places μ-places
-add-p c = search needs
+add-pass : tie.Need-add-pass Inv-bytes μ-bytes Inv-places μ-places
+add-pass c = search needs
+
+array-read-pass-3 : tie.Need-array-read-pass-3 Inv-bytes μ-bytes Inv-places μ-places
+array-read-pass-3 c = search needs
+
+array-read-pass-4 : tie.Need-array-read-pass-4 Inv-bytes μ-bytes Inv-places μ-places
+array-read-pass-4 c = search needs
+
+pass-requires-2 : tie.Need-pass-requires-2 Inv-bytes μ-bytes Inv-places μ-places
+pass-requires-2 c κs = search needs
 
 places-less : tie.Need-places-less Inv-bytes μ-bytes Inv-places μ-places
 places-less c = search needs
 
 places-again : tie.Need-places-again Inv-bytes μ-bytes Inv-places μ-places
 places-again c =
-    let h = c .before in
-    let a = h .before .before .before .before .before .before .args in
+    let h = c .before .before in
+    let a = h .before .before .before .before .before .before .before .before .args in
+    let w = h .before .before .before .before .u32-bytes in
     let p = h .before .before .places in
-    omega (arith, gap-step (a .order) (a .s .now) (p .p) (omega arith) (passed c), p .inv)
-
-returns-2 : tie.Need-returns-2 Inv-bytes μ-bytes Inv-places μ-places
-returns-2 c =
-    let a = c .before .before .before .before .before .args in
-    let p = c .before .places in
-    sym (search-none (a .order) (a .s .now) (a .from) (p .p) (omega arith) (p .inv))
+    let r = c .pass2 in
+    let f = free-to (a .order) (a .s .now) (w .result) (p .p + 1) (r .result) (w .ensures) (r .ensures .0) (omega arith) (r .ensures .2) in
+    omega (arith, gap-step (a .order) (a .s .now) (p .p) (omega arith) (passed (c .before)), p .inv, f)
 
 returns-3 : tie.Need-returns-3 Inv-bytes μ-bytes Inv-places μ-places
 returns-3 c =
+    let a = c .before .before .before .before .before .before .before .args in
+    let p = c .before .places in
+    sym (search-none (a .order) (a .s .now) (a .from) (p .p) (omega arith) (p .inv))
+
+returns-4 : tie.Need-returns-4 Inv-bytes μ-bytes Inv-places μ-places
+returns-4 c =
     let h = c .before .before .before in
-    let a = h .before .before .before .before .before .before .args in
+    let a = h .before .before .before .before .before .before .before .before .args in
     let p = h .before .before .places in
-    let f = c .before .look in
+    let f = c .before .headed in
     let q : stops (shows (a .order) (drop (p .p) (a .s .now))) ≡ true = rw (f .ensures) at (stop-told (f .result) (c .match .keys1)) in
     sym (search-here (a .order) (a .s .now) (a .from) (p .p) (omega arith) q (p .inv))
 
@@ -135,18 +173,25 @@ search-spec =
     μ-places
     returns
     sub-last
+    returns-2
     u32-bytes-requires
+    array-read-pass
+    array-read-pass-2
+    pass-requires
     places-holds
     bytes-holds
-    look-requires
-    add-if4
-    shared-slice-read-if4
-    array-read-if4
+    headed-requires
+    add-if5
+    shared-slice-read-if5
+    array-read-if5
     add-k
     bytes-less
     bytes-again
-    add-p
+    add-pass
+    array-read-pass-3
+    array-read-pass-4
+    pass-requires-2
     places-less
     places-again
-    returns-2
-    returns-3)
+    returns-3
+    returns-4)
