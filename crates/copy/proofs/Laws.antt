@@ -1,5 +1,5 @@
 -- Laws of copied samples: the numbers in order, values laid one by one, and when they fit.
-use Prim.Native.Nat.{ℕ, zero, suc, _+_, _-_, _*_, _/_, _≤_, _<_}
+use Prim.Native.Nat.{ℕ, zero, suc, _+_, _-_, _*_, _/_, _%_, _≤_, _<_}
 use mathlib.Core.Path.{_≡_, refl, sym}
 use mathlib.Core.Bool.{Bool, true, false}
 use mathlib.Core.List.{List, [], _∷_, _++_, append-assoc}
@@ -11,6 +11,7 @@ use lib.Dec.{leb}
 use lib.ListN.{length, getD, take, drop, set, length-append, length-drop}
 use lib.Seq.{drop-cons, set-at, append-snoc, take-at, drop-at}
 use Rattle.num.specs.Choice.{pick, each}
+use Rattle.num.specs.Number.{number}
 use Rattle.num.proofs.Laws.{elems, part-elems}
 use Rattle.num.proofs.Tests.{both-left, both-right, both-false, each-all, each-at, each-stop}
 use Rattle.copy.specs.Samples.{bytesAt, placeOf, iOf, qOf, pairsOf, realsOf, laid, inside, pairsFit, realsFit}
@@ -20,6 +21,20 @@ pub bytes-elems : (w : ℕ) (src : List ℕ) (k : ℕ) → (k + 1) * w ≤ lengt
 bytes-elems w src k h =
     let e : (k + 1) * w ≡ k * w + 1 * w = add-mul k 1 w in
     rw add-zero at (part-elems (k * w) 0 w src (omega arith))
+
+-- two numbers of two bytes out of one of four, in the little order and in the big
+pub little-halves : (a b c d : ℕ) → a < 256 → b < 256 → c < 256 → d < 256 →
+    let w : ℕ = number (a ∷ b ∷ c ∷ d ∷ []) in
+    (w % 65536 ≡ number (a ∷ b ∷ [])) × (w / 65536 ≡ number (c ∷ d ∷ []))
+little-halves a b c d fa fb fc fd = (omega arith, omega arith)
+
+pub big-halves : (a b c d : ℕ) → a < 256 → b < 256 → c < 256 → d < 256 →
+    let w : ℕ = number (d ∷ c ∷ b ∷ a ∷ []) in
+    let r : ℕ = w / 65536 + w % 65536 * 65536 in
+    (r % 65536 ≡ number (b ∷ a ∷ [])) × (r / 65536 ≡ number (d ∷ c ∷ []))
+big-halves a b c d fa fb fc fd =
+    let h = little-halves d c b a fd fc fb fa in
+    rw (h .0, h .1) (omega arith, omega arith)
 
 module _ {A : Type 0} where
   -- one value more is laid
@@ -70,6 +85,13 @@ module _ {A : Type 0} (value : ℕ → A) where
   pub reals-next : (out : List A) (j : ℕ) → j < length out → set (laid (realsOf value j) out) j (value j) ≡ laid (realsOf value (j + 1)) out
   unfolding realsOf
   reals-next out j h = rw (add-one j) (laid-next (realsOf value j) (value j) out j (length-reals j) h)
+
+  -- two numbers more
+  pub reals-two : (out : List A) (j : ℕ) → 2 * j + 1 < length out →
+      set (set (laid (realsOf value (2 * j)) out) (2 * j) (value (2 * j))) (2 * j + 1) (value (2 * j + 1)) ≡ laid (realsOf value (2 * (j + 1))) out
+  reals-two out j h =
+      let e : 2 * (j + 1) ≡ 2 * j + 1 + 1 = omega arith in
+      rw (e, reals-next out (2 * j) (omega arith)) (reals-next out (2 * j + 1) h)
 
   pub reals-length : (out : List A) (n : ℕ) → n ≤ length out → length (laid (realsOf value n) out) ≡ length out
   reals-length out n h = laid-length (realsOf value n) out (omega (arith, length-reals n))

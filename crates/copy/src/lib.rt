@@ -1,10 +1,13 @@
 // The samples of one channel, copied out of the sample bytes of a data chunk into a lent slice.
 ghost use mathlib.Core.Path.{_≡_};
 ghost use mathlib.Core.Bool.{true};
-ghost use Prim.Native.Nat.{_+_, _*_, _≤_, _<_};
+ghost use Prim.Native.Nat.{_+_, _*_, _/_, _%_, _≤_, _<_};
 ghost use lib.ListN.{length, set};
+ghost use mir.Syntax.{w16};
+ghost use mir.Val.{toZ};
 ghost use Rattle.num.specs.Choice.{pick};
-ghost use Rattle.copy.specs.Samples.{shortAt, patternAt, iOf, qOf, pairsOf, realsOf, laid, pairsFit, realsFit};
+ghost use Rattle.num.specs.Number.{unsigned};
+ghost use Rattle.copy.specs.Samples.{bytesAt, shortAt, patternAt, iOf, qOf, pairsOf, realsOf, laid, pairsFit, realsFit};
 use num::Order;
 
 // Number k of the sample bytes.
@@ -25,16 +28,58 @@ fn pattern_at(order: Order, src: &[u8], k: usize) -> u32
 }
 
 // One of two numbers.
-fn short_of(left: bool, a: i16, b: i16) -> i16
+fn pattern_of(left: bool, a: u32, b: u32) -> u32
     ensures { λ r. ⌜ r ≡ pick left a b ⌝ }
 {
     if left { a } else { b }
 }
 
-fn pattern_of(left: bool, a: u32, b: u32) -> u32
-    ensures { λ r. ⌜ r ≡ pick left a b ⌝ }
+// Two numbers that stand one after the other, in one: the first is its low half. A compiler makes one load of it.
+fn two_at(order: Order, src: &[u8], place: usize) -> u32
+    requires { ⌜ (place + 1) * 4 ≤ length (now src) ⌝ }
+    ensures { λ r. ⌜ (r % 65536 ≡ unsigned order (bytesAt 2 (now (src .entry)) (2 * place))) × (r / 65536 ≡ unsigned order (bytesAt 2 (now (src .entry)) (2 * place + 1))) ⌝ }
 {
-    if left { a } else { b }
+    let p = place * 4;
+    let word = num::u32_of(order, [src[p], src[p + 1], src[p + 2], src[p + 3]]);
+    match order {
+        Order::Big => word / 65536 + word % 65536 * 65536,
+        Order::Little => word,
+    }
+}
+
+fn low(two: u32) -> i16
+    ensures { λ r. ⌜ r ≡ toZ w16 (two % 65536) ⌝ }
+{
+    num::signed16((two % 65536) as u16)
+}
+
+fn high(two: u32) -> i16
+    ensures { λ r. ⌜ r ≡ toZ w16 (two / 65536) ⌝ }
+{
+    num::signed16((two / 65536) as u16)
+}
+
+// The numbers of the pair at a place of the sample bytes, laid as pair j of out as they stand. A compiler makes one store of it.
+fn straight(order: Order, src: &[u8], place: usize, j: usize, out: &mut [i16])
+    requires { ⌜ ((place + 1) * 4 ≤ length (now src)) × (2 * j + 1 < length (now out)) ⌝ }
+    ensures { λ _. ⌜ now (out .exit) ≡ set (set (now (out .entry)) (2 * j) (shortAt order (now (src .entry)) (2 * place))) (2 * j + 1) (shortAt order (now (src .entry)) (2 * place + 1)) ⌝ }
+{
+    let two = two_at(order, src, place);
+    let k = 2 * j;
+    out[k] = low(two);
+    out[k + 1] = high(two);
+}
+
+// The same, the second number before the first.
+fn crossed(order: Order, src: &[u8], place: usize, j: usize, out: &mut [i16])
+    requires { ⌜ ((place + 1) * 4 ≤ length (now src)) × (2 * j + 1 < length (now out)) ⌝ }
+    ensures { λ _. ⌜ now (out .exit) ≡ set (set (now (out .entry)) (2 * j) (shortAt order (now (src .entry)) (2 * place + 1))) (2 * j + 1) (shortAt order (now (src .entry)) (2 * place)) ⌝ }
+{
+    let a = short_at(order, src, 2 * place);
+    let b = short_at(order, src, 2 * place + 1);
+    let k = 2 * j;
+    out[k] = b;
+    out[k + 1] = a;
 }
 
 // The pair at a place of the sample bytes, laid as pair j of out.
@@ -42,11 +87,11 @@ fn short_pair(order: Order, iq: bool, src: &[u8], place: usize, j: usize, out: &
     requires { ⌜ ((place + 1) * 4 ≤ length (now src)) × (2 * j + 1 < length (now out)) ⌝ }
     ensures { λ _. ⌜ now (out .exit) ≡ set (set (now (out .entry)) (2 * j) (shortAt order (now (src .entry)) (iOf iq place))) (2 * j + 1) (shortAt order (now (src .entry)) (qOf iq place)) ⌝ }
 {
-    let a = short_at(order, src, 2 * place);
-    let b = short_at(order, src, 2 * place + 1);
-    let k = 2 * j;
-    out[k] = short_of(iq, a, b);
-    out[k + 1] = short_of(iq, b, a);
+    if iq {
+        straight(order, src, place, j, out)
+    } else {
+        crossed(order, src, place, j, out)
+    }
 }
 
 fn pattern_pair(order: Order, iq: bool, src: &[u8], place: usize, j: usize, out: &mut [u32])
@@ -210,10 +255,14 @@ pub fn short_reals(order: Order, src: &[u8], count: usize, out: &mut [i16]) -> b
     if out.len() < count {
         return false;
     }
+    let twos = count / 2;
     let mut j = 0;
-    while j < count {
-        out[j] = short_at(order, src, j);
+    while j < twos {
+        straight(order, src, j, j, out);
         j += 1;
+    }
+    if twos * 2 < count {
+        out[twos * 2] = short_at(order, src, twos * 2);
     }
     true
 }
