@@ -16,3 +16,4 @@ pub mod Listing
 pub mod Typed
 pub mod Marked
 pub mod Empty
+pub mod Bench
