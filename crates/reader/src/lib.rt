@@ -149,12 +149,11 @@ fn chunk(order: Order, code: u32, body: &[u8], cursor: Cursor) -> Stepped
 {
     let place = cursor.place;
     let size = body.len();
-    let mut next = cursor.accept(place + 12 + size);
+    let next = cursor.accept(place + 12 + size);
     let taken = effect::take::take(order, body::kind::kind_of(code), body, next.state);
     let after = taken.state;
     let shown = taken.shown;
     let verdict = taken.verdict;
-    next.state = after;
     Stepped {
         item: Item::Chunk {
             place,
@@ -163,7 +162,11 @@ fn chunk(order: Order, code: u32, body: &[u8], cursor: Cursor) -> Stepped
             verdict,
         },
         shown,
-        cursor: next,
+        cursor: Cursor {
+            place: next.place,
+            in_step: next.in_step,
+            state: after,
+        },
     }
 }
 
