@@ -2,11 +2,11 @@
 use Prim.Native.Nat.{ℕ, zero, suc, _+_, _-_, _≤_, _<_}
 use mathlib.Core.Path.{_≡_, refl, ap, sym, _∙_}
 use mathlib.Core.List.{List}
-use mathlib.Core.Bool.{Bool, true, false, _&&_, _||_}
+use mathlib.Core.Bool.{Bool, true, false, not, _&&_, _||_}
 use native.Mathlib.Nat.{add-zero}
 use native.Mathlib.Omega.{arith}
 use borrow.Author.Count.{below-more}
-use borrow.Author.Tests.{eq-eqb, ltb-true, ltb-false}
+use borrow.Author.Tests.{eq-eqb, not-true, ltb-true, ltb-false}
 use lib.Dec.{eqb, ltb}
 use lib.ListN.{length, getD, drop, List·getD-append}
 use lib.Seq.{getD-drop}
@@ -19,6 +19,10 @@ pub none-of : (a b : Bool) → a || b ≡ false → (a ≡ false) × (b ≡ fals
 none-of true b h = let z : _≡_ {A = ℕ} 0 1 = cc in absurd (omega arith)
 none-of false b h = (refl, h)
 
+pub both-of : (a b : Bool) → a && b ≡ true → (a ≡ true) × (b ≡ true)
+both-of true b h = (refl, h)
+both-of false b h = let z : _≡_ {A = ℕ} 0 1 = cc in absurd (omega arith)
+
 -- one place more, where its two bytes were compared
 pub free-more : (s : List ℕ) (a b from to : ℕ) → Free s a b from to → eqb (getD s to 0) a && eqb (getD s (to + 1) 0) b ≡ false → Free s a b from (to + 1)
 free-more s a b from to f e =
@@ -26,6 +30,10 @@ free-more s a b from to f e =
     let h = rw (eq-eqb (getD s to 0) a p, eq-eqb (getD s (to + 1) 0) b q) at e in
     let z : _≡_ {A = ℕ} 0 1 = cc in
     omega arith)
+
+-- or where its first byte is another
+pub free-other : (s : List ℕ) (a b from to n : ℕ) → n ≡ to + 1 → not (eqb (getD s to 0) a) ≡ true → Free s a b from to → Free s a b from n
+free-other s a b from to n e h f = rw e (free-more s a b from to f (rw (not-true (eqb (getD s to 0) a) h)))
 
 -- places one after the other
 join-by : (s : List ℕ) (a b from mid to k : ℕ) (t : Bool) → ltb k mid ≡ t → Free s a b from mid → Free s a b mid to → k < to → from ≤ k → getD s k 0 ≡ a → getD s (k + 1) 0 ≡ b → ⊥

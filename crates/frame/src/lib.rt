@@ -1,7 +1,7 @@
 // Frames: the sync word, what a stream shows at a place, the search, and finding the byte order.
 ghost use mathlib.Core.Path.{_≡_};
 ghost use mathlib.Core.Bool.{true};
-ghost use Prim.Native.Nat.{_+_, _≤_, _<_};
+ghost use Prim.Native.Nat.{ℕ, _+_, _≤_, _<_};
 ghost use lib.ListN.{length, drop};
 ghost use Rattle.num.specs.Number.{bytesOf};
 ghost use Rattle.frame.specs.Free.{Free};
@@ -99,12 +99,35 @@ fn free64(s: &[u8], p: usize, a: u8, b: u8) -> bool
     !hit
 }
 
+// Whether none of the four bytes from p on is a.
+fn free4(s: &[u8], p: usize, a: u8) -> bool
+    requires { ⌜ p + 4 ≤ length (now s) ⌝ }
+    ensures { λ r. ⌜ (r ≡ true → (b : ℕ) → Free (now (s .entry)) a b p (p + 4)) ⌝ }
+{
+    (s[p] != a) & ((s[p + 1] != a) & ((s[p + 2] != a) & (s[p + 3] != a)))
+}
+
+// The place from `from` on, at most `to`, up to which whole groups of four bytes have no a.
+fn fours(s: &[u8], from: usize, to: usize, a: u8) -> usize
+    requires { ⌜ (from ≤ to) × (to < length (now s)) ⌝ }
+    ensures { λ r. ⌜ (from ≤ r) × (r ≤ to) × ((b : ℕ) → Free (now (s .entry)) a b from r) ⌝ }
+{
+    let mut p = from;
+    while 4 <= to - p {
+        if !free4(s, p, a) {
+            return p;
+        }
+        p += 4;
+    }
+    p
+}
+
 // The first place from `from` on and below `to` that has the bytes a and b in front, or `to`.
 fn near(s: &[u8], from: usize, to: usize, a: u8, b: u8) -> usize
     requires { ⌜ (from ≤ to) × (to < length (now s)) ⌝ }
     ensures { λ r. ⌜ (from ≤ r) × (r ≤ to) × Free (now (s .entry)) a b from r ⌝ }
 {
-    let mut p = from;
+    let mut p = fours(s, from, to, a);
     while p < to {
         if (s[p] == a) & (s[p + 1] == b) {
             return p;
@@ -126,18 +149,13 @@ fn ahead(from: usize, end: usize, places: usize) -> usize
     }
 }
 
-// A place from `from` on, none before it having the bytes a and b in front: what is near is looked at place by place, then
-// whole blocks are passed over.
-fn pass(s: &[u8], from: usize, a: u8, b: u8) -> usize
+// A place from `from` on, none before it having the bytes a and b in front: whole blocks are passed over.
+fn blocks(s: &[u8], from: usize, a: u8, b: u8) -> usize
     requires { ⌜ from < length (now s) ⌝ }
     ensures { λ r. ⌜ (from ≤ r) × (r < length (now (s .entry))) × Free (now (s .entry)) a b from r ⌝ }
 {
     let end = s.len() - 1;
-    let first = ahead(from, end, 16);
-    let mut p = near(s, from, first, a, b);
-    if p < first {
-        return p;
-    }
+    let mut p = from;
     while 64 <= end - p {
         if !free64(s, p, a, b) {
             return near(s, p, end, a, b);
@@ -145,6 +163,19 @@ fn pass(s: &[u8], from: usize, a: u8, b: u8) -> usize
         p += 64;
     }
     near(s, p, end, a, b)
+}
+
+// The same, where such a place may be near.
+fn pass(s: &[u8], from: usize, a: u8, b: u8) -> usize
+    requires { ⌜ from < length (now s) ⌝ }
+    ensures { λ r. ⌜ (from ≤ r) × (r < length (now (s .entry))) × Free (now (s .entry)) a b from r ⌝ }
+{
+    let to = ahead(from, s.len() - 1, 16);
+    let p = near(s, from, to, a, b);
+    if p < to {
+        return p;
+    }
+    blocks(s, p, a, b)
 }
 
 // The search: the first place from `from` on that is complete or unfinished, or that there is none.
@@ -159,7 +190,7 @@ pub fn search(order: Order, s: &[u8], from: usize) -> Found
         return Found::Nothing;
     }
     let word = num::u32_bytes(order, SYNC);
-    let mut p = pass(s, from, word[0], word[1]);
+    let mut p = blocks(s, from, word[0], word[1]);
     'places: loop {
         if last < p {
             break Found::Nothing;

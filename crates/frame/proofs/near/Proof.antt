@@ -13,8 +13,11 @@ Inv-loop s from to a b p₀ p = (from ≤ p) × (p ≤ to) × Free s a b from p
 abbrev μ-loop : tie.MeasureT-loop
 μ-loop s from to a b p₀ p = to - p
 
+fours-requires : tie.Need-fours-requires Inv-loop μ-loop
+fours-requires c κs = search needs
+
 loop-holds : tie.Need-loop-holds Inv-loop μ-loop
-loop-holds c = (omega arith, omega arith, λ k l m. absurd (omega arith))
+loop-holds c = let f = c .fours .ensures in (f .0, f .1, f .2 (c .before .before .args .b))
 
 shared-slice-read-if1 : tie.Need-shared-slice-read-if1 Inv-loop μ-loop
 shared-slice-read-if1 c = search needs
@@ -37,7 +40,7 @@ loop-less c = search needs
 loop-again : tie.Need-loop-again Inv-loop μ-loop
 loop-again c =
     let l = c .before .before .before .before in
-    let a = l .before .args in
+    let a = l .before .before .before .args in
     (omega arith, omega arith, free-more (a .s .now) (a .a) (a .b) (a .from) (l .loop .p) (l .loop .inv .2) (c .if1 .left))
 
 returns-2 : tie.Need-returns-2 Inv-loop μ-loop
@@ -49,6 +52,7 @@ near-spec =
     (tie.spec
     Inv-loop
     μ-loop
+    fours-requires
     loop-holds
     shared-slice-read-if1
     add-if1

@@ -1,90 +1,33 @@
--- What is near and each block passed over has no such place.
-use Prim.Native.Nat.{_+_, _-_, _≤_}
+-- What is near, and what is passed over after it, has no such place.
 use native.Mathlib.Omega.{arith}
 use borrow.Author.Needs.{needs}
-use borrow.Author.Tests.{not-false}
-use Rattle.frame.specs.Free.{Free}
 use Rattle.frame.proofs.Free.{free-join}
 use Rattle.frame.proofs.pass.Statement.{statement}
 use Rattle.frame.proofs.pass.Tie as tie
 
-abbrev Inv-loop : tie.InvT-loop
-Inv-loop s from a b end first p₀ p = (from ≤ p) × (p ≤ end) × Free s a b from p
+sub-ahead : tie.Need-sub-ahead
+sub-ahead c = search needs
 
-abbrev μ-loop : tie.MeasureT-loop
-μ-loop s from a b end first p₀ p = end - p
-
-sub-end : tie.Need-sub-end Inv-loop μ-loop
-sub-end c = search needs
-
-ahead-requires : tie.Need-ahead-requires Inv-loop μ-loop
+ahead-requires : tie.Need-ahead-requires
 ahead-requires c κs = search needs
 
-near-requires : tie.Need-near-requires Inv-loop μ-loop
+near-requires : tie.Need-near-requires
 near-requires c κs = search needs
 
-returns : tie.Need-returns Inv-loop μ-loop
-returns c = (c .before .near .ensures .0, omega arith, c .before .near .ensures .2)
+returns : tie.Need-returns
+returns c = search needs
 
-loop-holds : tie.Need-loop-holds Inv-loop μ-loop
-loop-holds c = (c .before .near .ensures .0, omega arith, c .before .near .ensures .2)
+blocks-requires : tie.Need-blocks-requires
+blocks-requires c κs = search needs
 
-sub-loop : tie.Need-sub-loop Inv-loop μ-loop
-sub-loop c = search needs
-
-free64-requires : tie.Need-free64-requires Inv-loop μ-loop
-free64-requires c κs = search needs
-
-near-requires-2 : tie.Need-near-requires-2 Inv-loop μ-loop
-near-requires-2 c κs = search needs
-
-returns-2 : tie.Need-returns-2 Inv-loop μ-loop
+returns-2 : tie.Need-returns-2
 returns-2 c =
-    let l = c .before .before .before .before in
-    let a = l .before .before .before .before .before .args in
-    let n = c .near2 .ensures in
-    (omega arith, omega arith, free-join (a .s .now) (a .a) (a .b) (a .from) (l .loop .p) (c .near2 .result) (l .loop .inv .2) (n .2))
-
-add-p : tie.Need-add-p Inv-loop μ-loop
-add-p c = search needs
-
-loop-less : tie.Need-loop-less Inv-loop μ-loop
-loop-less c = search needs
-
-loop-again : tie.Need-loop-again Inv-loop μ-loop
-loop-again c =
-    let l = c .before .before .before in
-    let a = l .before .before .before .before .before .args in
-    let f = c .before .free64 in
-    (omega arith, omega arith, free-join (a .s .now) (a .a) (a .b) (a .from) (l .loop .p) (l .loop .p + 64) (l .loop .inv .2) (f .ensures (not-false (f .result) (c .if2 .left))))
-
-near-requires-3 : tie.Need-near-requires-3 Inv-loop μ-loop
-near-requires-3 c κs = search needs
-
-returns-3 : tie.Need-returns-3 Inv-loop μ-loop
-returns-3 c =
-    let l = c .before .before in
-    let a = l .before .before .before .before .before .args in
-    let n = c .near3 .ensures in
-    (omega arith, omega arith, free-join (a .s .now) (a .a) (a .b) (a .from) (l .loop .p) (c .near3 .result) (l .loop .inv .2) (n .2))
+    let m = c .before .before in
+    let a = m .before .before .before .args in
+    let n = m .near .ensures in
+    let r = c .blocks2 in
+    (omega arith, r .ensures .1, free-join (a .s .now) (a .a) (a .b) (a .from) (m .near .result) (r .result) (n .2) (r .ensures .2))
 
 pub pass-spec : {M : Type 1} → statement M
 pass-spec =
-    tie.close
-    (tie.spec
-    Inv-loop
-    μ-loop
-    sub-end
-    ahead-requires
-    near-requires
-    returns
-    loop-holds
-    sub-loop
-    free64-requires
-    near-requires-2
-    returns-2
-    add-p
-    loop-less
-    loop-again
-    near-requires-3
-    returns-3)
+    tie.close (tie.spec sub-ahead ahead-requires near-requires returns blocks-requires returns-2)

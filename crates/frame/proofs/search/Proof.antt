@@ -45,20 +45,20 @@ returns-2 c =
 u32-bytes-requires : tie.Need-u32-bytes-requires Inv-bytes μ-bytes Inv-places μ-places
 u32-bytes-requires c κs = search needs
 
-array-read-pass : tie.Need-array-read-pass Inv-bytes μ-bytes Inv-places μ-places
-array-read-pass c = search needs
+array-read-blocks : tie.Need-array-read-blocks Inv-bytes μ-bytes Inv-places μ-places
+array-read-blocks c = search needs
 
-array-read-pass-2 : tie.Need-array-read-pass-2 Inv-bytes μ-bytes Inv-places μ-places
-array-read-pass-2 c = search needs
+array-read-blocks-2 : tie.Need-array-read-blocks-2 Inv-bytes μ-bytes Inv-places μ-places
+array-read-blocks-2 c = search needs
 
-pass-requires : tie.Need-pass-requires Inv-bytes μ-bytes Inv-places μ-places
-pass-requires c κs = search needs
+blocks-requires : tie.Need-blocks-requires Inv-bytes μ-bytes Inv-places μ-places
+blocks-requires c κs = search needs
 
 places-holds : tie.Need-places-holds Inv-bytes μ-bytes Inv-places μ-places
 places-holds c =
     let a = c .before .before .before .before .before .args in
     let w = c .before .u32-bytes in
-    let r = c .pass in
+    let r = c .blocks2 in
     free-to (a .order) (a .s .now) (w .result) (a .from) (r .result) (w .ensures) (r .ensures .0) (omega arith) (r .ensures .2)
 
 bytes-holds : tie.Need-bytes-holds Inv-bytes μ-bytes Inv-places μ-places
@@ -126,14 +126,14 @@ passed c =
 add-pass : tie.Need-add-pass Inv-bytes μ-bytes Inv-places μ-places
 add-pass c = search needs
 
-array-read-pass-3 : tie.Need-array-read-pass-3 Inv-bytes μ-bytes Inv-places μ-places
-array-read-pass-3 c = search needs
+array-read-pass : tie.Need-array-read-pass Inv-bytes μ-bytes Inv-places μ-places
+array-read-pass c = search needs
 
-array-read-pass-4 : tie.Need-array-read-pass-4 Inv-bytes μ-bytes Inv-places μ-places
-array-read-pass-4 c = search needs
+array-read-pass-2 : tie.Need-array-read-pass-2 Inv-bytes μ-bytes Inv-places μ-places
+array-read-pass-2 c = search needs
 
-pass-requires-2 : tie.Need-pass-requires-2 Inv-bytes μ-bytes Inv-places μ-places
-pass-requires-2 c κs = search needs
+pass-requires : tie.Need-pass-requires Inv-bytes μ-bytes Inv-places μ-places
+pass-requires c κs = search needs
 
 places-less : tie.Need-places-less Inv-bytes μ-bytes Inv-places μ-places
 places-less c = search needs
@@ -144,7 +144,7 @@ places-again c =
     let a = h .before .before .before .before .before .before .before .before .args in
     let w = h .before .before .before .before .u32-bytes in
     let p = h .before .before .places in
-    let r = c .pass2 in
+    let r = c .pass in
     let f = free-to (a .order) (a .s .now) (w .result) (p .p + 1) (r .result) (w .ensures) (r .ensures .0) (omega arith) (r .ensures .2) in
     omega (arith, gap-step (a .order) (a .s .now) (p .p) (omega arith) (passed (c .before)), p .inv, f)
 
@@ -175,9 +175,9 @@ search-spec =
     sub-last
     returns-2
     u32-bytes-requires
-    array-read-pass
-    array-read-pass-2
-    pass-requires
+    array-read-blocks
+    array-read-blocks-2
+    blocks-requires
     places-holds
     bytes-holds
     headed-requires
@@ -188,9 +188,9 @@ search-spec =
     bytes-less
     bytes-again
     add-pass
-    array-read-pass-3
-    array-read-pass-4
-    pass-requires-2
+    array-read-pass
+    array-read-pass-2
+    pass-requires
     places-less
     places-again
     returns-3
