@@ -90,7 +90,7 @@ pub fn noise(bytes: usize) -> [(&'static str, Vec<u8>); 4] {
 
 /// Bodies of TEXT chunks of the largest size.
 pub fn texts(order: Order) -> [(&'static str, Vec<u8>); 2] {
-    let of = |words: &str| text_body(order, &words.as_bytes()[..69_628].to_vec());
+    let of = |words: &str| text_body(order, &words.as_bytes()[..69_628]);
     let mut mixed = String::new();
     while mixed.len() < 69_628 {
         mixed.push_str("Grüße from station 7, 東京タワー: CF 100.5 MHz, naïve 😀 ok. ");

@@ -1,26 +1,18 @@
 //! The library's compiled code against the second program's and against what the machine can do at most, as a table.
 
 mod inputs;
+mod limits;
 mod ours;
 mod race;
+mod table;
 
 use inputs::{CHANNELS, MIB, SAMPLES};
+use limits::{by_bytes, by_memchr, by_windows};
 use ours::Number;
-use race::{race, ratio, spread, Run, Spread, Times};
-use second::frame::{look, Look};
+use race::{middle, race, Run, Times};
 use second::write::write_record;
 use second::{count_items, search, Item, Kind, Order, Reader, Ready, Verdict};
-use std::io::BufRead;
-
-/// Measured times of one work.
-struct Row {
-    work: String,
-    bytes: usize,
-    ours: Times,
-    rust: Times,
-    limit: Option<Times>,
-    plain: Option<Times>,
-}
+use table::{grown, table, Growth, Row};
 
 fn main() {
     let mut rows = Vec::new();
@@ -86,50 +78,6 @@ fn steps(rows: &mut Vec<Row>) {
     }
 }
 
-/// The search with the C library's memchr, which std has behind `skip_until`.
-fn by_memchr(order: Order, s: &[u8]) -> usize {
-    let first = order.sync()[0];
-    let mut at = 0;
-    loop {
-        let mut rest = &s[at..];
-        let passed = rest.skip_until(first).expect("a slice can be read");
-        at += passed;
-        if passed == 0 || s[at - 1] != first {
-            return s.len();
-        }
-        if let Look::Complete(_) | Look::Unfinished = look(order, s, at - 1) {
-            return at - 1;
-        }
-    }
-}
-
-/// The search with the iterators of slices.
-fn by_windows(order: Order, s: &[u8]) -> usize {
-    let word = order.sync();
-    let stops = |p: &usize| matches!(look(order, s, *p), Look::Complete(_) | Look::Unfinished);
-    let places = s.windows(4).enumerate().filter(|(_, w)| *w == word);
-    places.map(|(p, _)| p).find(stops).unwrap_or(s.len())
-}
-
-/// The search place by place, byte by byte.
-fn by_bytes(order: Order, s: &[u8]) -> usize {
-    let word = order.sync();
-    let mut p = 0;
-    while p + 4 <= s.len() {
-        let mut k = 0;
-        while k < 4 && s[p + k] == word[k] {
-            k += 1;
-        }
-        if k == 4 {
-            if let Look::Complete(_) | Look::Unfinished = look(order, s, p) {
-                return p;
-            }
-        }
-        p += 1;
-    }
-    s.len()
-}
-
 fn searches(rows: &mut Vec<Row>) {
     let order = Order::Big;
     for (what, s) in inputs::noise(4 * MIB) {
@@ -159,10 +107,6 @@ fn searches(rows: &mut Vec<Row>) {
             plain,
         });
     }
-}
-
-fn middle(times: &Times) -> Spread {
-    spread(times.iter().copied())
 }
 
 /// The first ready chunk of a stream.
@@ -209,11 +153,7 @@ fn copying<T: Number>(
         Box::new(limit),
     ];
     let mut times = same(&work, &mut contestants).into_iter();
-    let stepping = spread(
-        race(&mut [Box::new(|| ours::step(order, metas))])[0]
-            .iter()
-            .copied(),
-    );
+    let stepping = middle(&race(&mut [Box::new(|| ours::step(order, metas))])[0]);
     let ours = times.next().expect("first");
     rows.push(Row {
         work,
@@ -348,12 +288,6 @@ fn writes(rows: &mut Vec<Row>) {
     }
 }
 
-/// Times of one work on streams of growing size, in MiB.
-struct Growth {
-    work: &'static str,
-    times: Vec<(usize, Spread)>,
-}
-
 fn growths(rows: &mut Vec<Row>) -> Vec<Growth> {
     let order = Order::Big;
     let sizes = [1, 4, 16, 64, 256];
@@ -371,12 +305,7 @@ fn growths(rows: &mut Vec<Row>) -> Vec<Growth> {
     let grow = |work, run: &dyn Fn(usize) -> usize| Growth {
         work,
         times: sizes
-            .map(|mib| {
-                (
-                    mib,
-                    spread(race(&mut [Box::new(|| run(mib * MIB))])[0].iter().copied()),
-                )
-            })
+            .map(|mib| (mib, middle(&race(&mut [Box::new(|| run(mib * MIB))])[0])))
             .to_vec(),
     };
     vec![
@@ -384,44 +313,4 @@ fn growths(rows: &mut Vec<Row>) -> Vec<Growth> {
         grow("step", &|n| ours::step(order, &whole[..n])),
         grow("search", &|n| ours::search(order, &noise[..n], 0)),
     ]
-}
-
-fn told(spread: Option<Spread>) -> String {
-    spread.map_or("".into(), |s| {
-        format!("{:.2} ({:.2}..{:.2})", s.middle, s.least, s.most)
-    })
-}
-
-fn table(rows: &[Row]) {
-    println!("| work | bytes | µs | MB/s | ours / Rust | ours / limit | ours / byte loop |");
-    println!("| --- | ---: | ---: | ---: | --- | --- | --- |");
-    for row in rows {
-        let one = middle(&row.ours).middle;
-        println!(
-            "| {} | {} | {:.1} | {:.0} | {} | {} | {} |",
-            row.work,
-            row.bytes,
-            one * 1e6,
-            row.bytes as f64 / one / 1e6,
-            told(Some(ratio(&row.ours, &row.rust))),
-            told(row.limit.as_ref().map(|limit| ratio(&row.ours, limit))),
-            told(row.plain.as_ref().map(|plain| ratio(&row.ours, plain))),
-        );
-    }
-}
-
-fn grown(growth: &[Growth]) {
-    println!("| ms, and ns for each KiB | 1 MiB | 4 MiB | 16 MiB | 64 MiB | 256 MiB |");
-    println!("| --- | --- | --- | --- | --- | --- |");
-    for g in growth {
-        print!("| {} |", g.work);
-        for (mib, time) in &g.times {
-            print!(
-                " {:.3}, {:.1} |",
-                time.middle * 1e3,
-                time.middle * 1e9 / (*mib as f64 * 1024.0)
-            );
-        }
-        println!();
-    }
 }

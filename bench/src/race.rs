@@ -45,7 +45,7 @@ pub struct Spread {
     pub most: f64,
 }
 
-pub fn spread(values: impl Iterator<Item = f64>) -> Spread {
+fn spread(values: impl Iterator<Item = f64>) -> Spread {
     let mut values: Vec<f64> = values.collect();
     values.sort_by(f64::total_cmp);
     Spread {
@@ -58,4 +58,9 @@ pub fn spread(values: impl Iterator<Item = f64>) -> Spread {
 /// The ratios of two contestants, round by round.
 pub fn ratio(a: &Times, b: &Times) -> Spread {
     spread(a.iter().zip(b).map(|(a, b)| a / b))
+}
+
+/// The middle of some times, and their ends.
+pub fn middle(times: &Times) -> Spread {
+    spread(times.iter().copied())
 }
