@@ -4,7 +4,7 @@ use second::frame::{look, Look};
 use second::Order;
 use std::io::BufRead;
 
-/// The search with the C library's memchr, which std has behind `skip_until`.
+/// The search with std's own memchr, which stands behind `skip_until`.
 pub fn by_memchr(order: Order, s: &[u8]) -> usize {
     let first = order.sync()[0];
     let mut at = 0;
