@@ -2,7 +2,7 @@
 ghost use mathlib.Core.Path.{_≡_};
 ghost use mathlib.Core.Bool.{true, false};
 ghost use lib.ListN.{length};
-ghost use Rattle.body.specs.Plain.{text, textSaid};
+ghost use Rattle.body.specs.Plain.{text};
 ghost use Rattle.effect.specs.Says.{verdictSaid};
 ghost use Rattle.copy.specs.Samples.{shortAt, patternAt};
 ghost use Rattle.frame.specs.Place.{searchFrom};
