@@ -5,26 +5,22 @@ use mathlib.Core.List.{List, [], _∷_, _++_, map, flatten, append-nil, List·Me
 use mathlib.Core.Bool.{Bool, true, false}
 use mathlib.Core.Logic.{⊎-elim}
 use native.Mathlib.Omega.{arith}
-use native.Mathlib.Nat.{zero-add}
 use lib.ListN.{length, drop, take, length-append, length-drop, take-append-drop}
-use lib.Seq.{drop-drop, drop-length, drop-append-le, drop-append-seam, drop-nil, length-take-le}
-use borrow.Author.Tests.{lt-ltb, ltb-true, ltb-false}
-use lib.Dec.{ltb}
-use Rattle.num.specs.Answer.{Answer, gives, refuses}
+use lib.Seq.{drop-drop, drop-length, drop-append-le, drop-append-seam, length-take-le}
+use Rattle.num.specs.Answer.{gives, refuses}
 use Rattle.num.specs.Choice.{pick}
 use Rattle.num.specs.declared.Order.{Order}
 use Rattle.num.specs.declared.Order.the-variants.{Big, Little}
 use Rattle.num.proofs.Laws.{Bytes}
 use Rattle.frame.specs.declared.At.{At}
 use Rattle.frame.specs.declared.At.the-variants.{NoSync, Bad, Unfinished, Complete}
-use Rattle.frame.specs.declared.Found.{Found}
 use Rattle.frame.specs.declared.Found.the-variants.{Place, Nothing}
 use Rattle.frame.specs.declared.OrderFound.{OrderFound}
 use Rattle.frame.specs.declared.OrderFound.the-variants.{Is, Neither}
 use Rattle.frame.specs.Place.{syncBytes, starts, shows, stops, gap, searchFrom, orderOf, orderSaid}
 use Rattle.frame.specs.Frames.{Frame, frameBytes, width, frameAt, first, framesBy, frames}
-use Rattle.frame.proofs.Laws.{drop-bytes, shows-none, gap-stop, gap-pass, gap-step, search-here, search-at, search-end}
-use Rattle.frame.proofs.Frames.{complete, chunk-back, gap-le, first-takes, fuel, frames-cons, frames-nil}
+use Rattle.frame.proofs.Laws.{drop-bytes, shows-none, gap-stop, gap-pass, search-here, search-at, search-end}
+use Rattle.frame.proofs.Frames.{complete, chunk-back, gap-le, first-takes, fuel}
 
 -- ---- every byte belongs to exactly one frame
 

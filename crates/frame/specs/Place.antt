@@ -1,6 +1,6 @@
 -- What a stream shows at a place, where a search stops, and which order a stream has.
 -- All is said of the bytes ahead of the place, so what lies behind it has no say.
-use Prim.Native.Nat.{ℕ, zero, suc, _+_, _-_, _%_}
+use Prim.Native.Nat.{ℕ, _+_, _-_, _%_}
 use mathlib.Core.List.{List, [], _∷_}
 use mathlib.Core.Bool.{Bool, true, false}
 use lib.ListN.{length, drop, take}

@@ -1,8 +1,8 @@
 -- Laws of a step, by what stands at the cursor's place.
 use Prim.Native.Nat.{ℕ, suc, _+_, _-_, _≤_, _<_}
-use mathlib.Core.Path.{_≡_, refl, sym, ap, _∙_}
+use mathlib.Core.Path.{_≡_, refl, ap, _∙_}
 use mathlib.Core.Bool.{Bool, true, false, not}
-use mathlib.Core.List.{List, [], _∷_}
+use mathlib.Core.List.{List, _∷_}
 use native.Mathlib.Omega.{arith}
 use lib.ListN.{length, getD, take, drop, length-drop}
 use lib.Seq.{drop-cons, drop-drop, drop-length, length-take-le}
@@ -17,7 +17,7 @@ use Rattle.frame.proofs.Frames.{complete}
 use Rattle.state.specs.Good.{goodState}
 use Rattle.effect.specs.Ready.{noState}
 use Rattle.reader.specs.Item.{end, itemSaid}
-use Rattle.reader.specs.Step.{Step, refused, skips, stepBy, stepAhead, stepOf}
+use Rattle.reader.specs.Step.{refused, skips, stepBy, stepAhead, stepOf}
 use Rattle.reader.specs.Took.{Took}
 use Rattle.reader.specs.declared.Cursor.{Cursor}
 use Rattle.reader.specs.declared.Item as declared

@@ -11,12 +11,12 @@ use borrow.Author.Tests.{not-false, ltb-true, ltb-false}
 use Rattle.num.specs.Answer.{Answer, gives, refuses}
 use Rattle.num.specs.Choice.{pick, both}
 use Rattle.num.specs.declared.Order.{Order}
-use Rattle.frame.specs.Frames.{Frame, frames, first, width}
+use Rattle.frame.specs.Frames.{Frame, frames}
 use Rattle.frame.specs.Frames as Frames
 use Rattle.frame.specs.Place.{shows, gap, stops}
 use Rattle.frame.specs.declared.At.{At}
 use Rattle.frame.specs.declared.At.the-variants.{NoSync, Bad, Unfinished, Complete}
-use Rattle.frame.proofs.Frames.{complete, gap-le, frames-nil, frames-chunk, frames-cut, frames-skip}
+use Rattle.frame.proofs.Frames.{gap-le, frames-nil, frames-chunk, frames-cut, frames-skip}
 use Rattle.frame.proofs.Laws.{gap-step}
 use Rattle.body.specs.Kind.{kindOf}
 use Rattle.state.specs.Good.{goodState}
