@@ -1,9 +1,12 @@
 // Data chunks: whether they are ready, and what they show.
 ghost use mathlib.Core.Path.{_≡_};
+ghost use mathlib.Core.Bool.{true, false};
+ghost use lib.Dec.{ltb};
+ghost use Rattle.num.specs.Choice.{pick};
 ghost use Rattle.body.specs.Samples.{dataSaid};
 ghost use Rattle.effect.specs.Says.{verdictSaid};
 ghost use Rattle.effect.specs.Ready.{dataSays, covering, isReady, hertzOf, gainsOf, inGroup};
-ghost use Rattle.effect.specs.Effect.{timed, single, grouped};
+ghost use Rattle.effect.specs.Effect.{timed};
 ghost use Rattle.effect.specs.Took.{Took};
 use crate::Lack;
 use crate::Taken;
@@ -96,17 +99,31 @@ fn in_group(was: State) -> State
     shown
 }
 
-// A ready chunk shows a state and clears the start mark; any other shows nothing and sets it.
-fn timed(verdict: Verdict, shows: State, was: State) -> Taken
-    ensures { λ r. ⌜ Took r (timed (verdictSaid verdict) shows was) ⌝ }
+// What is said of a data chunk, and whether it is a group's.
+pub struct Judged {
+    pub verdict: Verdict,
+    pub group: bool,
+}
+
+// The state that a ready chunk shows.
+fn shows(group: bool, was: State) -> State
+    ensures { λ r. ⌜ r ≡ pick group (inGroup was) was ⌝ }
 {
+    if group { in_group(was) } else { was }
+}
+
+// A ready chunk shows a state and clears the start mark; any other shows nothing and sets it.
+pub(crate) fn timed(judged: Judged, was: State) -> Taken
+    ensures { λ r. ⌜ Took r (timed (verdictSaid (judged .verdict)) (pick (judged .group) (inGroup was) was) was) ⌝ }
+{
+    let verdict = judged.verdict;
     let ready = is_ready(verdict);
     let mut next = was;
     next.mark = !ready;
     if ready {
         return Taken {
             verdict,
-            shown: shows,
+            shown: shows(judged.group, was),
             state: next,
         };
     }
@@ -118,19 +135,25 @@ fn timed(verdict: Verdict, shows: State, was: State) -> Taken
 }
 
 // A data chunk of one channel: whether it has the packing and the float full scale, where it needs them.
-pub(crate) fn single(read: DataRead, packed: bool, scaled: bool, was: State) -> Taken
-    ensures { λ r. ⌜ Took r (single (dataSaid read) packed scaled was) ⌝ }
+pub(crate) fn single(read: DataRead, packed: bool, scaled: bool, was: State) -> Judged
+    ensures { λ r. ⌜ (verdictSaid (r .verdict) ≡ dataSays (dataSaid read) packed (was .rate .present) scaled) × (r .group ≡ false) ⌝ }
 {
     let rate = was.rate;
-    timed(verdict_of(read, packed, rate.present, scaled), was, was)
+    Judged {
+        verdict: verdict_of(read, packed, rate.present, scaled),
+        group: false,
+    }
 }
 
 // A data chunk of a group: whether it has the float full scale, where it needs it.
-pub(crate) fn grouped(read: DataRead, scaled: bool, was: State) -> Taken
-    ensures { λ r. ⌜ Took r (grouped (dataSaid read) scaled was) ⌝ }
+pub(crate) fn grouped(read: DataRead, scaled: bool, was: State) -> Judged
+    ensures { λ r. ⌜ (verdictSaid (r .verdict) ≡ covering (was .group) (dataSays (dataSaid read) (ltb 0 (was .group .n)) (was .rate .present) scaled)) × (r .group ≡ true) ⌝ }
 {
     let rate = was.rate;
     let group = was.group;
     let verdict = verdict_of(read, 0 < group.n, rate.present, scaled);
-    timed(covering(group, verdict), in_group(was), was)
+    Judged {
+        verdict: covering(group, verdict),
+        group: true,
+    }
 }

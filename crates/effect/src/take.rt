@@ -7,6 +7,7 @@ use crate::Taken;
 use crate::Verdict;
 use crate::ready::grouped;
 use crate::ready::single;
+use crate::ready::timed;
 use crate::value;
 use body::data;
 use body::group;
@@ -169,29 +170,30 @@ pub fn take(order: Order, kind: Kind, body: &[u8], was: State) -> Taken
     let scale = was.float_scale;
     let packed = packing.present;
     let scaled = scale.present;
-    match kind {
+    let judged = match kind {
         Kind::SSNC => single(data::ssnc(order, body), packed, true, was),
         Kind::SSNR => single(data::ssnr(order, body), true, true, was),
         Kind::SFNC => single(data::sfnc(order, body), packed, scaled, was),
         Kind::SFNR => single(data::sfnr(order, body), true, scaled, was),
         Kind::GSNC => grouped(data::gsnc(order, body), true, was),
         Kind::GFNC => grouped(data::gfnc(order, body), scaled, was),
-        Kind::SIQP => siqp(order, body, was),
-        Kind::SR => sr(order, body, was),
-        Kind::BW => bw(order, body, was),
-        Kind::GCBW => gcbw(order, body, was),
-        Kind::BWOF => bwof(order, body, was),
-        Kind::CF => cf(order, body, was),
-        Kind::DBFS => dbfs(order, body, was),
-        Kind::DBTG => dbtg(order, body, was),
-        Kind::FFS => ffs(order, body, was),
-        Kind::GIQP => giqp(order, body, was),
-        Kind::GCF => gcf(order, body, was),
-        Kind::GRG => grg(order, body, was),
-        Kind::SOFH => met(value::of_number(number::sofh(order, body)), was),
-        Kind::EOFH => met(value::of_checked(plain::empty(body)), was),
-        Kind::IQDC => iqdc(order, body, was),
-        Kind::TEXT => met(value::of_text(plain::text(order, body)), was),
-        Kind::Unknown => met(Verdict::Unknown, was),
-    }
+        Kind::SIQP => return siqp(order, body, was),
+        Kind::SR => return sr(order, body, was),
+        Kind::BW => return bw(order, body, was),
+        Kind::GCBW => return gcbw(order, body, was),
+        Kind::BWOF => return bwof(order, body, was),
+        Kind::CF => return cf(order, body, was),
+        Kind::DBFS => return dbfs(order, body, was),
+        Kind::DBTG => return dbtg(order, body, was),
+        Kind::FFS => return ffs(order, body, was),
+        Kind::GIQP => return giqp(order, body, was),
+        Kind::GCF => return gcf(order, body, was),
+        Kind::GRG => return grg(order, body, was),
+        Kind::SOFH => return met(value::of_number(number::sofh(order, body)), was),
+        Kind::EOFH => return met(value::of_checked(plain::empty(body)), was),
+        Kind::IQDC => return iqdc(order, body, was),
+        Kind::TEXT => return met(value::of_text(plain::text(order, body)), was),
+        Kind::Unknown => return met(Verdict::Unknown, was),
+    };
+    timed(judged, was)
 }

@@ -1,4 +1,5 @@
--- The lacks, then the cover, then what is shown.
+-- The lacks, then the cover.
+use mathlib.Core.Path.{refl}
 use borrow.Author.Needs.{needs}
 use Rattle.effect.proofs.ready.grouped.Statement.{statement}
 use Rattle.effect.proofs.ready.grouped.Tie as tie
@@ -9,19 +10,8 @@ verdict-of-requires c κs = search needs
 covering-requires : tie.Need-covering-requires
 covering-requires c κs = search needs
 
-in-group-requires : tie.Need-in-group-requires
-in-group-requires c κs = search needs
-
-timed-requires : tie.Need-timed-requires
-timed-requires c κs = search needs
-
 returns : tie.Need-returns
-returns c =
-    let v = c .before .before .before .verdict-of in
-    let k = c .before .before .covering in
-    rw (← v .ensures, ← k .ensures, ← c .before .in-group .ensures) (c .timed .ensures)
+returns c = (rw (← c .before .verdict-of .ensures) (c .covering .ensures), refl)
 
 pub grouped-spec : {M : Type 1} → statement M
-grouped-spec =
-    tie.close
-    (tie.spec verdict-of-requires covering-requires in-group-requires timed-requires returns)
+grouped-spec = tie.close (tie.spec verdict-of-requires covering-requires returns)

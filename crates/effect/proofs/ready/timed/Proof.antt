@@ -7,10 +7,13 @@ use Rattle.effect.proofs.ready.timed.Tie as tie
 is-ready-requires : tie.Need-is-ready-requires
 is-ready-requires c κs = search needs
 
+shows-requires : tie.Need-shows-requires
+shows-requires c κs = search needs
+
 returns : tie.Need-returns
 returns c =
-    let r = c .before .is-ready in
-    record { says = refl; shown = rw (← r .ensures, c .if1 .taken); after = rw (← r .ensures, c .if1 .taken) }
+    let r = c .before .before .is-ready in
+    record { says = refl; shown = rw (← r .ensures, c .before .if1 .taken) (c .shows .ensures); after = rw (← r .ensures, c .before .if1 .taken) }
 
 empty-requires : tie.Need-empty-requires
 empty-requires c κs = search needs
@@ -21,4 +24,4 @@ returns-2 c =
     record { says = refl; shown = rw (← r .ensures, c .before .if1 .left, c .empty .ensures); after = rw (← r .ensures, c .before .if1 .left) }
 
 pub timed-spec : {M : Type 1} → statement M
-timed-spec = tie.close (tie.spec is-ready-requires returns empty-requires returns-2)
+timed-spec = tie.close (tie.spec is-ready-requires shows-requires returns empty-requires returns-2)

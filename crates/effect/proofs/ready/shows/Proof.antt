@@ -1,0 +1,16 @@
+-- A group chunk shows its own counts alone.
+use borrow.Author.Needs.{needs}
+use Rattle.effect.proofs.ready.shows.Statement.{statement}
+use Rattle.effect.proofs.ready.shows.Tie as tie
+
+in-group-requires : tie.Need-in-group-requires
+in-group-requires c κs = search needs
+
+returns : tie.Need-returns
+returns c = rw (c .before .if1 .taken) (c .in-group .ensures)
+
+returns-2 : tie.Need-returns-2
+returns-2 c = rw (c .if1 .left)
+
+pub shows-spec : {M : Type 1} → statement M
+shows-spec = tie.close (tie.spec in-group-requires returns returns-2)
