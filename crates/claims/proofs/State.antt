@@ -1,8 +1,12 @@
--- The empty state, and whether a state is good, are each one answer.
+-- A state put together anew, the empty state, and whether a state is good, are each one answer.
 use mathlib.Core.Path.{sym, _∙_}
+use Rattle.state.proofs.State.anew.Reads as anew
 use Rattle.state.proofs.State.empty.Reads as empty
 use Rattle.state.proofs.State.good.Reads as good
 use Rattle.claims.proofs.Promise.{OneAnswer}
+
+pub anew-one-answer : OneAnswer anew.Post
+anew-one-answer κs a r r′ s s′ p q = p ∙ sym q
 
 pub empty-one-answer : OneAnswer empty.Post
 empty-one-answer κs a r r′ s s′ p q = p ∙ sym q

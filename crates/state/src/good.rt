@@ -1,9 +1,10 @@
 // Which states are good: every present value is one that the body table allows, and 0 stands where there is none.
 ghost use mathlib.Core.Path.{_≡_};
 ghost use lib.Signed.{leZ};
-ghost use Rattle.num.specs.Choice.{pick};
+ghost use lib.Dec.{leb};
+ghost use Rattle.num.specs.Choice.{pick, both};
 ghost use Rattle.body.specs.Levels.{isFinite};
-ghost use Rattle.state.specs.Good.{isZero, isPlusZero, zeroOrOne, anyNumber, scale, offset, nothing, goodNumber, goodBand, goodLevel, goodFrom, goodHead, goodGroup, goodFrequencies, goodGains, goodState};
+ghost use Rattle.state.specs.Good.{isZero, isPlusZero, zeroOrOne, anyNumber, scale, offset, nothing, goodNumber, goodBand, goodLevel, goodFrom, goodHead, goodState};
 use crate::BandHeld;
 use crate::Held;
 use crate::LevelHeld;
@@ -103,46 +104,42 @@ fn good_scale(x: LevelHeld) -> bool
     )
 }
 
-// In each list the first n places are used, and the others hold 0. An offset fits an int32.
-fn good_offsets(n: usize, a: [u32; 16]) -> bool
-    ensures { λ r. ⌜ r ≡ goodFrom offset nothing n 0 a ⌝ }
-{
-    let mut good = true;
-    let mut i = 0;
-    while i < 16 {
-        let x = a[i];
-        let fits = chosen(i < n, x < 0x8000_0000, x == 0);
-        good = good & fits;
-        i += 1;
-    }
-    good
+// Whether each place of a list holds what it may.
+pub struct Listed {
+    pub offsets: bool,
+    pub hertz: bool,
+    pub gains: bool,
 }
 
-fn good_hertz(n: usize, a: [i64; 16]) -> bool
-    ensures { λ r. ⌜ r ≡ goodFrom anyNumber isZero n 0 a ⌝ }
+// In each list the first n places are used, and the others hold 0. An offset fits an int32. One loop goes over the three lists,
+// with no early way out, so that several places are tested at a time.
+fn places(group: GroupPacking, frequencies: GroupHertz, gains: GroupGains) -> Listed
+    ensures { λ r. ⌜ (r .offsets ≡ goodFrom offset nothing (group .n) 0 (group .offsets)) × (r .hertz ≡ goodFrom anyNumber isZero (frequencies .n) 0 (frequencies .values)) × (r .gains ≡ goodFrom isFinite isPlusZero (gains .n) 0 (gains .values)) ⌝ }
 {
-    let mut good = true;
+    let offsets = group.offsets;
+    let hertz = frequencies.values;
+    let decibels = gains.values;
+    let mut a = true;
+    let mut b = true;
+    let mut c = true;
     let mut i = 0;
     while i < 16 {
-        let fits = chosen(i < n, true, is_zero(a[i]));
-        good = good & fits;
+        let x = offsets[i];
+        let y = hertz[i];
+        let z = decibels[i];
+        let offset_fits = chosen(i < group.n, x < 0x8000_0000, x == 0);
+        let hertz_fits = chosen(i < frequencies.n, true, is_zero(y));
+        let gain_fits = chosen(i < gains.n, finite(z), plus_zero(z));
+        a = a & offset_fits;
+        b = b & hertz_fits;
+        c = c & gain_fits;
         i += 1;
     }
-    good
-}
-
-fn good_decibels(n: usize, a: [f32; 16]) -> bool
-    ensures { λ r. ⌜ r ≡ goodFrom isFinite isPlusZero n 0 a ⌝ }
-{
-    let mut good = true;
-    let mut i = 0;
-    while i < 16 {
-        let x = a[i];
-        let fits = chosen(i < n, finite(x), plus_zero(x));
-        good = good & fits;
-        i += 1;
+    Listed {
+        offsets: a,
+        hertz: b,
+        gains: c,
     }
-    good
 }
 
 // With no channels there is no packing and no increment; otherwise the increment is 1 or n.
@@ -158,26 +155,11 @@ fn good_head(g: GroupPacking) -> bool
     )
 }
 
-fn good_group(g: GroupPacking) -> bool
-    ensures { λ r. ⌜ r ≡ goodGroup g ⌝ }
+// Up to 16 channels, and each place of the list as it may be.
+fn good_list(n: usize, listed: bool) -> bool
+    ensures { λ r. ⌜ r ≡ both (leb n 16) listed ⌝ }
 {
-    let a = g.offsets;
-    let listed = (g.n <= 16) & good_offsets(g.n, a);
-    good_head(g) & listed
-}
-
-fn good_frequencies(g: GroupHertz) -> bool
-    ensures { λ r. ⌜ r ≡ goodFrequencies g ⌝ }
-{
-    let a = g.values;
-    (g.n <= 16) & good_hertz(g.n, a)
-}
-
-fn good_gains(g: GroupGains) -> bool
-    ensures { λ r. ⌜ r ≡ goodGains g ⌝ }
-{
-    let a = g.values;
-    (g.n <= 16) & good_decibels(g.n, a)
+    (n <= 16) & listed
 }
 
 impl State {
@@ -185,6 +167,10 @@ impl State {
     pub fn good(self) -> bool
         ensures { λ r. ⌜ r ≡ goodState self ⌝ }
     {
+        let group = self.group;
+        let frequencies = self.frequencies;
+        let gains = self.gains;
+        let lists = places(group, frequencies, gains);
         good_packing(self.packing)
             & good_at_least(1, self.rate)
             & good_band(self.band)
@@ -193,8 +179,8 @@ impl State {
             & good_level(self.full_scale)
             & good_level(self.total_gain)
             & good_scale(self.float_scale)
-            & good_group(self.group)
-            & good_frequencies(self.frequencies)
-            & good_gains(self.gains)
+            & (good_head(group) & good_list(group.n, lists.offsets))
+            & good_list(frequencies.n, lists.hertz)
+            & good_list(gains.n, lists.gains)
     }
 }

@@ -72,7 +72,70 @@ fn no_level() -> LevelHeld
     }
 }
 
+fn number_anew(h: Held) -> Held
+    ensures { λ r. ⌜ r ≡ h ⌝ }
+{
+    Held {
+        present: h.present,
+        value: h.value,
+    }
+}
+
+fn band_anew(b: BandHeld) -> BandHeld
+    ensures { λ r. ⌜ r ≡ b ⌝ }
+{
+    BandHeld {
+        present: b.present,
+        width: b.width,
+        offset: b.offset,
+    }
+}
+
+fn level_anew(x: LevelHeld) -> LevelHeld
+    ensures { λ r. ⌜ r ≡ x ⌝ }
+{
+    LevelHeld {
+        present: x.present,
+        value: x.value,
+    }
+}
+
+fn packing_anew(g: GroupPacking) -> GroupPacking
+    ensures { λ r. ⌜ r ≡ g ⌝ }
+{
+    let offsets = g.offsets;
+    GroupPacking {
+        n: g.n,
+        iq: g.iq,
+        increment: g.increment,
+        offsets,
+    }
+}
+
 impl State {
+    // The same state, put together from its values. Where a state is copied whole and then read value by value, a compiler
+    // carries the padding between the values along in small pieces; of this copy it carries the values alone.
+    pub fn anew(self) -> Self
+        ensures { λ r. ⌜ r ≡ self ⌝ }
+    {
+        let frequencies = self.frequencies;
+        let gains = self.gains;
+        State {
+            packing: number_anew(self.packing),
+            rate: number_anew(self.rate),
+            band: band_anew(self.band),
+            group_band: number_anew(self.group_band),
+            centre: number_anew(self.centre),
+            full_scale: level_anew(self.full_scale),
+            total_gain: level_anew(self.total_gain),
+            float_scale: level_anew(self.float_scale),
+            group: packing_anew(self.group),
+            frequencies,
+            gains,
+            mark: self.mark,
+        }
+    }
+
     // Every value absent; with or without the start mark.
     pub fn empty(mark: bool) -> Self
         ensures { λ r. ⌜ r ≡ emptied mark ⌝ }

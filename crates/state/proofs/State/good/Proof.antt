@@ -4,6 +4,9 @@ use Rattle.state.specs.Good.{goodState}
 use Rattle.state.proofs.State.good.Statement.{statement}
 use Rattle.state.proofs.State.good.Tie as tie
 
+places-requires : tie.Need-places-requires
+places-requires c κs = search needs
+
 good-packing-requires : tie.Need-good-packing-requires
 good-packing-requires c κs = search needs
 
@@ -28,36 +31,45 @@ good-level-requires-2 c κs = search needs
 good-scale-requires : tie.Need-good-scale-requires
 good-scale-requires c κs = search needs
 
-good-group-requires : tie.Need-good-group-requires
-good-group-requires c κs = search needs
+good-head-requires : tie.Need-good-head-requires
+good-head-requires c κs = search needs
 
-good-frequencies-requires : tie.Need-good-frequencies-requires
-good-frequencies-requires c κs = search needs
+good-list-requires : tie.Need-good-list-requires
+good-list-requires c κs = search needs
 
-good-gains-requires : tie.Need-good-gains-requires
-good-gains-requires c κs = search needs
+good-list-requires-2 : tie.Need-good-list-requires-2
+good-list-requires-2 c κs = search needs
+
+good-list-requires-3 : tie.Need-good-list-requires-3
+good-list-requires-3 c κs = search needs
 
 returns : tie.Need-returns
 unfolding goodState
 returns c =
+    let p = c .before .before .before .before .before .before .before .before .before .before .before .before .places .ensures in
     rw (
-      c .good-gains .ensures,
-      c .before .good-frequencies .ensures,
-      c .before .before .good-group .ensures,
-      c .before .before .before .good-scale .ensures,
-      c .before .before .before .before .good-level2 .ensures,
-      c .before .before .before .before .before .good-level .ensures,
-      c .before .before .before .before .before .before .good-centre .ensures,
-      c .before .before .before .before .before .before .before .good-at-least2 .ensures,
-      c .before .before .before .before .before .before .before .before .good-band .ensures,
-      c .before .before .before .before .before .before .before .before .before .good-at-least .ensures,
-      c .before .before .before .before .before .before .before .before .before .before .good-packing .ensures,
+      c .good-list3 .ensures,
+      c .before .good-list2 .ensures,
+      c .before .before .good-list .ensures,
+      c .before .before .before .good-head .ensures,
+      c .before .before .before .before .good-scale .ensures,
+      c .before .before .before .before .before .good-level2 .ensures,
+      c .before .before .before .before .before .before .good-level .ensures,
+      c .before .before .before .before .before .before .before .good-centre .ensures,
+      c .before .before .before .before .before .before .before .before .good-at-least2 .ensures,
+      c .before .before .before .before .before .before .before .before .before .good-band .ensures,
+      c .before .before .before .before .before .before .before .before .before .before .good-at-least .ensures,
+      c .before .before .before .before .before .before .before .before .before .before .before .good-packing .ensures,
+      p .0,
+      p .1,
+      p .2,
     )
 
 pub good-spec : {M : Type 1} → statement M
 good-spec =
     tie.close
     (tie.spec
+    places-requires
     good-packing-requires
     good-at-least-requires
     good-band-requires
@@ -66,7 +78,8 @@ good-spec =
     good-level-requires
     good-level-requires-2
     good-scale-requires
-    good-group-requires
-    good-frequencies-requires
-    good-gains-requires
+    good-head-requires
+    good-list-requires
+    good-list-requires-2
+    good-list-requires-3
     returns)
