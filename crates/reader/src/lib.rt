@@ -96,8 +96,28 @@ impl Cursor {
         self
     }
 
+    // The same cursor, its state put together from its values, which is faster to carry on.
+    fn anew(self) -> Self
+        ensures { λ r. ⌜ r ≡ self ⌝ }
+    {
+        let state = self.state;
+        Cursor {
+            place: self.place,
+            in_step: self.in_step,
+            state: state.anew(),
+        }
+    }
+
     // One item, and the cursor moved on.
     pub fn step(self, order: Order, s: &[u8]) -> Stepped
+        ensures { λ r. ⌜ Took r (stepOf order (now (s .entry)) self) ⌝ }
+    {
+        let cursor = self.anew();
+        cursor.go_on(order, s)
+    }
+
+    // The same of a cursor whose state is put together.
+    fn go_on(self, order: Order, s: &[u8]) -> Stepped
         ensures { λ r. ⌜ Took r (stepOf order (now (s .entry)) self) ⌝ }
     {
         let at = self.place;

@@ -1,155 +1,16 @@
--- The tests come in the rule's order; then each case of what stands at the place is a step of that case.
-use mathlib.Core.Bool.{true, false}
-use mathlib.Core.Path.{_≡_, sym, _∙_}
-use native.Mathlib.Omega.{arith}
-use lib.ListN.{drop, length-drop}
-use Rattle.frame.specs.Place.{shows}
-use Rattle.frame.specs.declared.At.the-variants.{Complete}
-use Rattle.frame.proofs.Laws.{pass-told}
-use Rattle.reader.specs.Step.{stepBy, stepOf}
-use Rattle.reader.proofs.Laws.{unfit, step-past, step-unfit, step-end, step-ahead, step-skips, still-took, chunk-ends, chunk-body, chunk-size}
+-- The cursor that goes on is the cursor that came.
 use borrow.Author.Needs.{needs}
 use Rattle.reader.proofs.Cursor.step.Statement.{statement}
 use Rattle.reader.proofs.Cursor.step.Tie as tie
 
-still-requires : tie.Need-still-requires
-still-requires c κs = search needs
+anew-requires : tie.Need-anew-requires
+anew-requires c κs = search needs
+
+go-on-requires : tie.Need-go-on-requires
+go-on-requires c κs = search needs
 
 returns : tie.Need-returns
-returns c =
-    let a = c .before .before .before .args in
-    rw (step-past (a .order) (a .s .now) (a .self) (c .before .if1 .taken)) (still-took (c .still .ensures))
-
-good-requires : tie.Need-good-requires
-good-requires c κs = search needs
-
-still-requires-2 : tie.Need-still-requires-2
-still-requires-2 c κs = search needs
-
-returns-2 : tie.Need-returns-2
-returns-2 c =
-    let a = c .before .before .before .before .before .before .before .args in
-    let k : unfit (a .self) ≡ true = rw (← c .before .before .before .good2 .ensures) (c .before .if2 .taken) in
-    rw (step-unfit (a .order) (a .s .now) (a .self) (c .before .before .before .before .before .if1 .left) k) (still-took (c .still2 .ensures))
-
--- past the test of number 3, it is not due
-fit : (c : tie.Else2) → unfit (c .before .before .before .before .before .before .args .self) ≡ false
-fit c = rw (← c .before .before .good2 .ensures) (c .if2 .left)
-
-still-requires-3 : tie.Need-still-requires-3
-still-requires-3 c κs = search needs
-
-returns-3 : tie.Need-returns-3
-returns-3 c =
-    let a = c .before .before .before .before .before .before .before .before .args in
-    rw (step-end (a .order) (a .s .now) (a .self) (c .before .if3 .taken) (fit (c .before .before))) (still-took (c .still3 .ensures))
-
--- what was looked at, and the step that it makes
-told : (c : tie.After-known-told) →
-    let a = c .before .before .before .before .before .before .before .before .before .before .before .args in
-    shows (a .order) (drop (a .self .place) (a .s .now)) ≡ Complete (c .before .code .given .0 .0) (c .before .code .given .0 .1 .0)
-told c = sym (c .before .before .before .look .ensures) ∙ c .before .code .given .1
-
-ahead : (c : tie.After-look) →
-    let a = c .before .before .before .before .before .before .before .before .args in
-    let l = drop (a .self .place) (a .s .now) in
-    stepOf (a .order) (a .s .now) (a .self) ≡ stepBy (a .order) l (a .self) (c .look .result)
-ahead c =
-    let a = c .before .before .before .before .before .before .before .before .args in
-    step-ahead (a .order) (a .s .now) (a .self) (omega arith) (fit (c .before .before)) ∙ rw (← c .look .ensures)
-
-look-requires : tie.Need-look-requires
-look-requires c κs = search needs
-
-enum-known-code : tie.Need-enum-known-code
-enum-known-code c = search needs
-
-add-from : tie.Need-add-from
-add-from c = search needs
-
-add-to : tie.Need-add-to
-add-to c =
-    let a = c .before .before .before .before .before .before .before .before .before .before .before .args in
-    record { fits = omega (arith, chunk-ends (a .order) (a .s .now) (a .self .place) (c .before .code .given .0 .0) (c .before .code .given .0 .1 .0) (told c)) }
-
-sub-chunk : tie.Need-sub-chunk
-sub-chunk c = search needs
-
-part-chunk-start : tie.Need-part-chunk-start
-part-chunk-start c = search needs
-
-part-chunk-end : tie.Need-part-chunk-end
-part-chunk-end c =
-    let a = c .before .before .before .before .before .before .before .before .before .before .before .args in
-    chunk-ends (a .order) (a .s .now) (a .self .place) (c .before .code .given .0 .0) (c .before .code .given .0 .1 .0) (told c)
-
-chunk-requires : tie.Need-chunk-requires
-chunk-requires c κs =
-    let a = c .before .before .before .before .before .before .before .before .before .before .before .before .args in
-    let k = told (c .before) in
-    let code = c .before .before .code .given .0 .0 in
-    let size = c .before .before .code .given .0 .1 .0 in
-    let at = a .self .place in
-    rw (chunk-body (a .order) (a .s .now) at code size k, chunk-size (a .order) (a .s .now) at code size k)
-    (omega (arith, chunk-ends (a .order) (a .s .now) at code size k))
-
-enum-told : tie.Need-enum-told
-enum-told c = search needs
-
-sub-cut : tie.Need-sub-cut
-sub-cut c = search needs
-
-cut-requires : tie.Need-cut-requires
-cut-requires c κs = search needs
-
-skip-requires : tie.Need-skip-requires
-skip-requires c κs = search needs
-
-returns-4 : tie.Need-returns-4
-returns-4 c =
-    let a = c .before .before .before .before .before .before .before .before .before .before .before .before .before .args in
-    let k = told (c .before .before) in
-    let code = c .before .before .before .code .given .0 .0 in
-    let size = c .before .before .before .code .given .0 .1 .0 in
-    let at = a .self .place in
-    rw (ahead (c .before .before .before .before .before), c .before .before .before .code .given .1)
-    (rw (chunk-body (a .order) (a .s .now) at code size k, chunk-size (a .order) (a .s .now) at code size k) at (c .chunk .ensures))
-
-returns-5 : tie.Need-returns-5
-returns-5 c =
-    let h = c .before .before .before in
-    let a = h .before .before .before .before .before .before .before .before .args in
-    rw (ahead h, c .before .enum-told .given .1, length-drop (a .self .place) (a .s .now)) (c .cut .ensures)
-
-returns-6 : tie.Need-returns-6
-returns-6 c =
-    let h = c .before .before in
-    let a = h .before .before .before .before .before .before .before .before .args in
-    rw (ahead h, step-skips (a .order) (drop (a .self .place) (a .s .now)) (a .self) (h .look .result) (pass-told (h .look .result) (c .before .match .keys3))) (c .skip .ensures)
+returns c = rw (← c .before .anew .ensures) (c .go-on .ensures)
 
 pub step-spec : {M : Type 1} → statement M
-step-spec =
-    tie.close
-    (tie.spec
-    still-requires
-    returns
-    good-requires
-    still-requires-2
-    returns-2
-    still-requires-3
-    returns-3
-    look-requires
-    enum-known-code
-    add-from
-    add-to
-    sub-chunk
-    part-chunk-start
-    part-chunk-end
-    chunk-requires
-    enum-told
-    sub-cut
-    cut-requires
-    skip-requires
-    returns-4
-    returns-5
-    returns-6)
+step-spec = tie.close (tie.spec anew-requires go-on-requires returns)
