@@ -2,7 +2,7 @@
 use Prim.Native.Nat.{ℕ, zero, suc, _+_, _*_, _≤_, _<_}
 use mathlib.Core.Path.{_≡_, refl, sym, ap, _∙_}
 use mathlib.Core.Bool.{Bool, true, false}
-use mathlib.Core.List.{List, [], _∷_, _++_, map, flatten, append-nil, append-assoc}
+use mathlib.Core.List.{List, [], _∷_, _++_, append-nil, append-assoc}
 use native.Mathlib.Nat.{add-zero, mul-suc}
 use native.Mathlib.Numerals.{add-one}
 use native.Mathlib.Omega.{arith}
@@ -14,6 +14,7 @@ use Rattle.num.specs.Choice.{pick}
 use Rattle.num.specs.Number.{bytesOf}
 use Rattle.num.specs.declared.Order.{Order}
 use Rattle.num.proofs.Laws.{bytes-length}
+use Rattle.writer.specs.Data.{runOf}
 use Rattle.writer.specs.Write.{splice}
 use Rattle.writer.proofs.Laws.{splice-splice}
 use Rattle.typed.specs.Groups.{laid, atMost}
@@ -38,19 +39,19 @@ of-sixteen xs n m false e = refl
 module _ {A : Type 0} (bytes : A → List ℕ) where
   -- nothing is laid yet
   pub laid-none : (xs : List A) (d : List ℕ) (at : ℕ) → d ≡ splice d at (laid bytes 0 xs)
-  unfolding flatten
+  unfolding runOf
   laid-none xs d at = sym (rw add-zero (take-append-drop at d))
 
   -- one value more
   pub laid-more : (c : ℕ) (xs : List A) (z : A) → c < length xs → laid bytes (suc c) xs ≡ laid bytes c xs ++ bytes (getD xs c z)
-  unfolding flatten
+  unfolding runOf
   laid-more c [] z h = absurd (omega arith)
   laid-more zero (x ∷ xs) z h = append-nil (bytes x)
   laid-more (suc c) (x ∷ xs) z h = rw (laid-more c xs z (omega arith)) (sym (append-assoc (bytes x) (laid bytes c xs) (bytes (getD xs c z))))
 
   -- the value at a place, with what is laid before it and after it
   pub laid-split : (n c : ℕ) (xs : List A) (z : A) → c < n → n ≤ length xs → (rest : List ℕ) × (laid bytes n xs ≡ laid bytes c xs ++ (bytes (getD xs c z) ++ rest))
-  unfolding flatten
+  unfolding runOf
   laid-split zero c xs z h m = absurd (omega arith)
   laid-split (suc n) c [] z h m = absurd (omega arith)
   laid-split (suc n) zero (x ∷ xs) z h m = (laid bytes n xs, refl)
@@ -60,7 +61,7 @@ module _ {A : Type 0} (bytes : A → List ℕ) where
 
   module _ (w : ℕ) (wide : (x : A) → length (bytes x) ≡ w) where
     pub laid-length : (n : ℕ) (xs : List A) → n ≤ length xs → length (laid bytes n xs) ≡ w * n
-    unfolding flatten
+    unfolding runOf
     laid-length zero xs h = omega arith
     laid-length (suc n) [] h = absurd (omega arith)
     laid-length (suc n) (x ∷ xs) h = omega (arith, length-append (bytes x) (laid bytes n xs), wide x, laid-length n xs (omega arith), mul-suc w n)
@@ -82,4 +83,4 @@ module _ {A : Type 0} (bytes : A → List ℕ) where
         let p : length (head ++ laid bytes used xs) ≡ q + w * used = omega (arith, length-append head (laid bytes used xs), laid-length used xs (omega arith)) in
         ap (take (q + w * used)) (after d l k head (laid bytes used xs) q h (omega arith) e g)
         ∙ take-at (head ++ laid bytes used xs) (drop (0 + length (head ++ laid bytes used xs)) d) (q + w * used) p
-        ∙ ap (λ (t : List A). head ++ flatten (map bytes t)) (ap (λ (j : ℕ). take j xs) u ∙ of-sixteen xs n m (ltb 16 n) refl)
+        ∙ ap (λ (t : List A). head ++ runOf bytes t) (ap (λ (j : ℕ). take j xs) u ∙ of-sixteen xs n m (ltb 16 n) refl)

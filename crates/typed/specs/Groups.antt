@@ -1,6 +1,6 @@
 -- The bytes that a group's values make.
 use Prim.Native.Nat.{ℕ}
-use mathlib.Core.List.{List, _++_, map, flatten}
+use mathlib.Core.List.{List, _++_}
 use lib.Dec.{ltb}
 use lib.ListN.{take}
 use Rattle.num.specs.Choice.{pick}
@@ -9,11 +9,12 @@ use Rattle.num.specs.declared.Order.{Order}
 use Rattle.body.specs.declared.group.GroupPacking.{GroupPacking}
 use Rattle.body.specs.declared.group.GroupHertz.{GroupHertz}
 use Rattle.body.specs.declared.group.GroupGains.{GroupGains}
+use Rattle.writer.specs.Data.{runOf}
 use Rattle.typed.specs.Bodies.{int64, float32}
 
 -- the bytes of each of the first n values, one after the other
 abbrev pub laid : {A : Type 0} → (A → List ℕ) → ℕ → List A → List ℕ
-laid bytes n xs = flatten (map bytes (take n xs))
+laid bytes n xs = runOf bytes (take n xs)
 
 -- n, or the limit where n is above it
 abbrev pub atMost : ℕ → ℕ → ℕ
