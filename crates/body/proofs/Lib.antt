@@ -1,5 +1,6 @@
 pub mod Laws
 pub mod Floats
+pub mod Nans
 pub mod Lists
 pub mod Groups
 pub mod Texts

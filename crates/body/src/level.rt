@@ -1,5 +1,6 @@
 // The level kinds: dBFS, dBTG, FFS_.
 ghost use mathlib.Core.Path.{_≡_};
+ghost use lib.Ieee.{binary32, toBits};
 ghost use Rattle.body.specs.Levels.{floatSaid, levelSaid, finite32, dbfs, dbtg, ffs};
 use crate::fault::Fault;
 use num::Order;
@@ -22,6 +23,13 @@ pub enum LevelRead {
 pub enum FloatRead {
     Finite(f32),
     Faulty(Fault),
+}
+
+// The pattern of a number; a NaN has one, which no level allows.
+pub fn pattern(x: f32) -> u32
+    ensures { λ r. ⌜ r ≡ toBits binary32 x ⌝ }
+{
+    if x == x { f32::to_bits(x) } else { 0x7FC0_0000 }
 }
 
 // The number of a body that is one finite float.

@@ -19,6 +19,7 @@ use Rattle.body.proofs.kind.kind_of.Reads as kind_of
 use Rattle.body.proofs.level.dbfs.Reads as dbfs
 use Rattle.body.proofs.level.dbtg.Reads as dbtg
 use Rattle.body.proofs.level.ffs.Reads as ffs
+use Rattle.body.proofs.level.pattern.Reads as pattern
 use Rattle.body.proofs.number.bw.Reads as bw
 use Rattle.body.proofs.number.bwof.Reads as bwof
 use Rattle.body.proofs.number.cf.Reads as cf
@@ -43,6 +44,9 @@ no-hertz-one-answer κs a r r′ s s′ p q = p ∙ sym q
 
 pub no-gains-one-answer : OneAnswer no_gains.Post
 no-gains-one-answer κs a r r′ s s′ p q = p ∙ sym q
+
+pub pattern-one-answer : OneAnswer pattern.Post
+pattern-one-answer κs a r r′ s s′ p q = p ∙ sym q
 
 -- an answer that means what a rule says
 

@@ -68,11 +68,7 @@ fn level(which: Label, value: LevelHeld) {
 
 // A float's pattern. No state that is shown holds a NaN.
 fn pattern(x: f32) {
-    if x == x {
-        put(hex_word(f32::to_bits(x)));
-    } else {
-        put(hex_word(0x7FC0_0000));
-    }
+    put(hex_word(body::level::pattern(x)));
 }
 
 fn wide(x: u32) -> usize {

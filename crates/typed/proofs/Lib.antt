@@ -1,4 +1,3 @@
-pub mod Floats
 pub mod Laid
 pub mod Writes
 pub mod Numbers

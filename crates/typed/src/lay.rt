@@ -6,7 +6,6 @@ ghost use Rattle.num.specs.Number.{bytesOf};
 ghost use Rattle.writer.specs.Write.{splice};
 ghost use Rattle.typed.specs.Bodies.{int64, float32};
 ghost use Rattle.typed.specs.Groups.{laid};
-use crate::level;
 use num::Order;
 
 // All of src into out, from the place `at` on.
@@ -68,7 +67,7 @@ pub(crate) fn floats(order: Order, xs: [f32; 16], n: usize, out: &mut [u8], at: 
 {
     let mut c = 0;
     while c < n {
-        word(order, level::pattern(xs[c]), out, at + 4 * c);
+        word(order, body::level::pattern(xs[c]), out, at + 4 * c);
         c += 1;
     }
 }

@@ -1,6 +1,5 @@
 // The level kinds, written from a level.
 ghost use mathlib.Core.Path.{_≡_};
-ghost use lib.Ieee.{binary32, toBits};
 ghost use lib.ListN.{length};
 ghost use Rattle.writer.specs.Write.{writeOf, writtenOut, writtenSaid};
 ghost use Rattle.typed.specs.Bodies.{float32};
@@ -9,19 +8,12 @@ use body::level::Level;
 use num::Order;
 use writer::Written;
 
-// The pattern of a number; a NaN has one, which no level allows.
-pub(crate) fn pattern(x: f32) -> u32
-    ensures { λ r. ⌜ r ≡ toBits binary32 x ⌝ }
-{
-    if x == x { f32::to_bits(x) } else { 0x7FC0_0000 }
-}
-
 // A record of one float32.
 fn float(order: Order, code: u32, x: f32, out: &mut [u8], place: usize) -> Written
     ensures said { λ r. ⌜ writtenSaid r ≡ writeOf order code (float32 order x) (length (now (out .entry))) place ⌝ }
     ensures left { λ _. ⌜ now (out .exit) ≡ writtenOut order code (float32 order x) (now (out .entry)) place ⌝ }
 {
-    let body = num::u32_bytes(order, pattern(x));
+    let body = num::u32_bytes(order, body::level::pattern(x));
     writer::write(order, code, &body, out, place)
 }
 

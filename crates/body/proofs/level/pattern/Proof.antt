@@ -2,9 +2,9 @@
 use mathlib.Core.Path.{sym, ap}
 use lib.Ieee.{binary32, toBits}
 use borrow.Author.Needs.{needs}
-use Rattle.typed.proofs.Floats.{equal-no-nan, unequal-nan}
-use Rattle.typed.proofs.level.pattern.Statement.{statement}
-use Rattle.typed.proofs.level.pattern.Tie as tie
+use Rattle.body.proofs.Nans.{equal-no-nan, unequal-nan}
+use Rattle.body.proofs.level.pattern.Statement.{statement}
+use Rattle.body.proofs.level.pattern.Tie as tie
 
 float-to-bits-result : tie.Need-float-to-bits-result
 float-to-bits-result c = equal-no-nan _ (c .if1 .taken)
