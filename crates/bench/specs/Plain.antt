@@ -1,5 +1,5 @@
 -- Answers as plain numbers, for a caller that takes no others.
-use Prim.Native.Nat.{ℕ, zero, suc, _+_}
+use Prim.Native.Nat.{ℕ, _+_}
 use mathlib.Core.List.{List, [], _∷_}
 use lib.Dec.{eqb}
 use Rattle.num.specs.Answer.{Answer, gives, refuses}
@@ -11,8 +11,6 @@ use Rattle.frame.specs.declared.Found.{Found}
 use Rattle.frame.specs.declared.Found.the-variants.{Place, Nothing}
 use Rattle.reader.specs.Item.{Item, end, skipped, unfinished, chunk}
 use Rattle.reader.specs.Items.{Given}
-use Rattle.reader.specs.Step.{newCursor, stepOf}
-use Rattle.reader.specs.declared.Cursor.{Cursor}
 
 -- the order by its number: 0 is big, any other little
 abbrev pub orderBy : ℕ → Order
@@ -57,8 +55,3 @@ soundIn (refuses k) = 0
 unfoldable pub soundCount : List Given → ℕ
 soundCount [] = 0
 soundCount (g ∷ rest) = soundItem (g .item) + soundCount rest
-
--- the cursor after so many steps from a new one
-unfoldable pub after : Order → List ℕ → ℕ → Cursor
-after o s zero = newCursor
-after o s (suc n) = stepOf o s (after o s n) .cursor

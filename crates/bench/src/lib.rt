@@ -8,9 +8,10 @@ ghost use Rattle.copy.specs.Samples.{shortAt, patternAt};
 ghost use Rattle.frame.specs.Place.{searchFrom};
 ghost use Rattle.reader.specs.Item.{itemSaid};
 ghost use Rattle.reader.specs.Items.{items};
+ghost use Rattle.reader.specs.Step.{newCursor, after};
 ghost use Rattle.samples.specs.Copy.{copiedSaid, layoutAt, countOf, samplesAt, filled};
 ghost use Rattle.writer.specs.Write.{writeOf, writtenOut, writtenSaid};
-ghost use Rattle.bench.specs.Plain.{orderBy, given, refusal, placeOr, sound, soundIn, soundCount, after};
+ghost use Rattle.bench.specs.Plain.{orderBy, given, refusal, placeOr, sound, soundIn, soundCount};
 use body::plain::TextRead;
 use effect::Verdict;
 use frame::Found;
@@ -147,7 +148,7 @@ pub extern "C" fn bench_write(
 
 // The cursor after so many steps from a new one.
 fn stepped(order: Order, s: &[u8], steps: usize) -> Cursor
-    ensures { λ r. ⌜ r ≡ after order (now (s .entry)) steps ⌝ }
+    ensures { λ r. ⌜ r ≡ after steps order (now (s .entry)) newCursor ⌝ }
 {
     let mut cursor = Cursor::new();
     let mut k = 0;
@@ -182,8 +183,8 @@ pub extern "C" fn bench_shorts(
     channel: usize,
     out: &mut [i16],
 ) -> usize
-    ensures { λ r. ⌜ r ≡ given (countOf false (orderBy order) (now (s .entry)) (after (orderBy order) (now (s .entry)) steps) channel (length (now (out .entry)))) ⌝ }
-    ensures { λ _. ⌜ now (out .exit) ≡ filled (countOf false (orderBy order) (now (s .entry)) (after (orderBy order) (now (s .entry)) steps) channel (length (now (out .entry)))) (layoutAt false (orderBy order) (now (s .entry)) (after (orderBy order) (now (s .entry)) steps) channel) (shortAt (orderBy order) (samplesAt (orderBy order) (now (s .entry)) (after (orderBy order) (now (s .entry)) steps))) (now (out .entry)) ⌝ }
+    ensures { λ r. ⌜ r ≡ given (countOf false (orderBy order) (now (s .entry)) (after steps (orderBy order) (now (s .entry)) newCursor) channel (length (now (out .entry)))) ⌝ }
+    ensures { λ _. ⌜ now (out .exit) ≡ filled (countOf false (orderBy order) (now (s .entry)) (after steps (orderBy order) (now (s .entry)) newCursor) channel (length (now (out .entry)))) (layoutAt false (orderBy order) (now (s .entry)) (after steps (orderBy order) (now (s .entry)) newCursor) channel) (shortAt (orderBy order) (samplesAt (orderBy order) (now (s .entry)) (after steps (orderBy order) (now (s .entry)) newCursor))) (now (out .entry)) ⌝ }
 {
     let by = order_by(order);
     count_of(samples::shorts::copy(by, s, stepped(by, s, steps), channel, out))
@@ -198,8 +199,8 @@ pub extern "C" fn bench_patterns(
     channel: usize,
     out: &mut [u32],
 ) -> usize
-    ensures { λ r. ⌜ r ≡ given (countOf true (orderBy order) (now (s .entry)) (after (orderBy order) (now (s .entry)) steps) channel (length (now (out .entry)))) ⌝ }
-    ensures { λ _. ⌜ now (out .exit) ≡ filled (countOf true (orderBy order) (now (s .entry)) (after (orderBy order) (now (s .entry)) steps) channel (length (now (out .entry)))) (layoutAt true (orderBy order) (now (s .entry)) (after (orderBy order) (now (s .entry)) steps) channel) (patternAt (orderBy order) (samplesAt (orderBy order) (now (s .entry)) (after (orderBy order) (now (s .entry)) steps))) (now (out .entry)) ⌝ }
+    ensures { λ r. ⌜ r ≡ given (countOf true (orderBy order) (now (s .entry)) (after steps (orderBy order) (now (s .entry)) newCursor) channel (length (now (out .entry)))) ⌝ }
+    ensures { λ _. ⌜ now (out .exit) ≡ filled (countOf true (orderBy order) (now (s .entry)) (after steps (orderBy order) (now (s .entry)) newCursor) channel (length (now (out .entry)))) (layoutAt true (orderBy order) (now (s .entry)) (after steps (orderBy order) (now (s .entry)) newCursor) channel) (patternAt (orderBy order) (samplesAt (orderBy order) (now (s .entry)) (after steps (orderBy order) (now (s .entry)) newCursor))) (now (out .entry)) ⌝ }
 {
     let by = order_by(order);
     count_of(samples::patterns::copy(by, s, stepped(by, s, steps), channel, out))

@@ -17,12 +17,12 @@ use Rattle.frame.proofs.Theorems.{search-stopped}
 use Rattle.state.specs.declared.State.{State}
 use Rattle.effect.specs.Ready.{noState}
 use Rattle.reader.specs.Items.{items}
-use Rattle.reader.specs.Step.{Step, cursorAt, newCursor, skips, accepts, stepOf}
+use Rattle.reader.specs.Step.{Step, cursorAt, newCursor, skips, accepts, stepOf, after}
 use Rattle.reader.specs.declared.Cursor.{Cursor}
 use Rattle.reader.proofs.Laws.{unfit, step-ahead, step-skips}
 use Rattle.reader.proofs.Theorems.{reading, reads, new-fit}
 use Rattle.samples.proofs.AtCursor.{effectOf}
-use Rattle.ending.specs.Ending.{onto, givenBy, cursorBy, stepCounted, AcceptsFirstAt, lead, after, fromChunk, BeginsAt}
+use Rattle.ending.specs.Ending.{onto, givenBy, cursorBy, stepCounted, AcceptsFirstAt, lead, fromChunk, BeginsAt}
 use Rattle.ending.proofs.Moved.{step-moved, told-moved, reading-moved, after-moved}
 
 -- a cursor c of s gives what e gives in l, each place p further on
@@ -49,12 +49,6 @@ after-add : (j k : ℕ) (o : Order) (s : List ℕ) (c : Cursor) → after (j + k
 unfolding after
 after-add zero k o s c = rw (zero-add k)
 after-add (suc j) k o s c = let q : suc j + k ≡ suc (j + k) = omega arith in rw q (after-add j k o s (stepOf o s c .cursor))
-
--- one step more
-pub after-suc : (k : ℕ) (o : Order) (s : List ℕ) (c : Cursor) → after (suc k) o s c ≡ stepOf o s (after k o s c) .cursor
-unfolding after
-after-suc zero o s c = refl
-after-suc (suc k) o s c = after-suc k o s (stepOf o s c .cursor)
 
 module _ (o : Order) (s : List ℕ) (c : Cursor) (p : ℕ) (f : AcceptsFirstAt o s c p) where
   pub inside : p < length s

@@ -18,10 +18,10 @@ use Rattle.state.specs.Good.{goodState}
 use Rattle.state.specs.declared.State.{State}
 use Rattle.reader.specs.Item.{Item, end, skipped, unfinished, chunk}
 use Rattle.reader.specs.Items.{Given}
-use Rattle.reader.specs.Step.{Step, refused, stepBy, stepAhead, stepOf}
+use Rattle.reader.specs.Step.{Step, refused, stepBy, stepAhead, stepOf, after}
 use Rattle.reader.specs.declared.Cursor.{Cursor}
 use Rattle.reader.proofs.Theorems.{told, reading}
-use Rattle.ending.specs.Ending.{since, onto, itemBy, answerBy, givenBy, cursorBy, stepCounted, after}
+use Rattle.ending.specs.Ending.{since, onto, itemBy, answerBy, givenBy, cursorBy, stepCounted}
 
 -- ---- one step
 

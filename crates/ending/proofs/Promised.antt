@@ -13,11 +13,11 @@ use Rattle.frame.specs.declared.At.the-variants.{Complete}
 use Rattle.frame.proofs.Theorems.{Clean, search-stopped}
 use Rattle.copy.specs.Samples.{shortAt, patternAt}
 use Rattle.reader.specs.Items.{Given, items}
-use Rattle.reader.specs.Step.{newCursor, stepOf}
+use Rattle.reader.specs.Step.{newCursor, stepOf, after}
 use Rattle.reader.specs.Took.{Took}
 use Rattle.reader.specs.declared.Cursor.{Cursor}
 use Rattle.reader.proofs.Theorems.{reads}
-use Rattle.ending.specs.Ending.{since, onto, givenBy, stepCounted, AcceptsFirstAt, lead, after, fromChunk}
+use Rattle.ending.specs.Ending.{since, onto, givenBy, stepCounted, AcceptsFirstAt, lead, fromChunk}
 use Rattle.ending.proofs.Accepted.{searching-fit}
 use Rattle.ending.proofs.Calls.{NewCall, new-met, StepCall, ShortsCall, shortsOf, shorts-met, PatternsCall, patternsOf, patterns-met}
 use Rattle.ending.proofs.Copied.{SameCopies}

@@ -9,16 +9,15 @@ use lib.ListN.{length}
 use Rattle.num.specs.declared.Order.{Order}
 use Rattle.reader.specs.Item.{itemSaid}
 use Rattle.reader.specs.Items.{Given}
-use Rattle.reader.specs.Step.{Step, stepOf}
+use Rattle.reader.specs.Step.{Step, stepOf, after}
 use Rattle.reader.specs.Took.{Took}
 use Rattle.reader.specs.declared.Cursor.{Cursor}
 use Rattle.reader.specs.declared.Stepped.{Stepped}
-use Rattle.reader.proofs.Theorems.{told, reading}
+use Rattle.reader.proofs.Theorems.{after-suc, told, reading}
 use Rattle.samples.specs.Copy.{copiedSaid, layoutAt, countOf, samplesAt, filled}
 use Rattle.samples.proofs.Theorems.{copied-told}
-use Rattle.ending.specs.Ending.{since, onto, answerBy, cursorBy, stepCounted, after}
+use Rattle.ending.specs.Ending.{since, onto, answerBy, cursorBy, stepCounted}
 use Rattle.ending.proofs.Moved.{step-back}
-use Rattle.ending.proofs.Accepted.{after-suc}
 use Rattle.ending.proofs.Calls.{StepCall, StepOn, step-met, Copying, Copies}
 use Rattle.ending.proofs.Copied.{SameCopies}
 

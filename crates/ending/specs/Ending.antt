@@ -1,5 +1,5 @@
 -- Reading on from the first chunk that a searching reader accepts, with places counted from there.
-use Prim.Native.Nat.{ℕ, zero, suc, _+_, _-_}
+use Prim.Native.Nat.{ℕ, _+_, _-_}
 use mathlib.Core.Path.{_≡_}
 use mathlib.Core.Bool.{Bool, true, false}
 use mathlib.Core.List.{List, [], _∷_}
@@ -13,7 +13,7 @@ use Rattle.frame.specs.declared.At.the-variants.{Complete}
 use Rattle.frame.specs.declared.Found.the-variants.{Place}
 use Rattle.reader.specs.Item.{Item, end, skipped, unfinished, chunk}
 use Rattle.reader.specs.Items.{Given}
-use Rattle.reader.specs.Step.{Step, cursorAt, stepOf}
+use Rattle.reader.specs.Step.{Step, cursorAt}
 use Rattle.reader.specs.declared.Cursor.{Cursor}
 
 -- a place, counted from a start; and back, a place after a start as a place of the whole
@@ -54,11 +54,6 @@ pub record AcceptsFirstAt (o : Order) (s : List ℕ) (c : Cursor) (p : ℕ) : Ty
 -- the steps before that: the skipped stretch is one, if it is not empty
 abbrev pub lead : ℕ → Cursor → ℕ
 lead p c = pick (eqb (c .place) p) 0 1
-
--- the cursor after so many steps
-unfoldable pub after : ℕ → Order → List ℕ → Cursor → Cursor
-after zero o s c = c
-after (suc k) o s c = after k o s (stepOf o s c .cursor)
 
 -- the items from the first chunk on
 abbrev pub isChunk : Item → Bool

@@ -25,7 +25,7 @@ use Rattle.state.proofs.Laws.{empty-good}
 use Rattle.effect.specs.Effect.{effect}
 use Rattle.effect.proofs.Good.{effect-good}
 use Rattle.reader.specs.Item.{Item, end, skipped, unfinished, chunk}
-use Rattle.reader.specs.Step.{Step, newCursor, before, refused, skips, stepBy, stepAhead, stepOf}
+use Rattle.reader.specs.Step.{Step, newCursor, before, refused, skips, stepBy, stepAhead, stepOf, after}
 use Rattle.reader.specs.Items.{Given, itemsFrom, items}
 use Rattle.reader.specs.declared.Cursor.{Cursor}
 use Rattle.reader.proofs.Laws.{unfit, step-end, step-ahead, chunk-ends, chunk-size}
@@ -38,6 +38,12 @@ items-length o p step s (Frames.chunk code body ∷ rest) =
     ap suc (items-length o (p + 12 + length body) true (effect o (kindOf code) body (before step s) .after) rest)
 items-length o p step s (Frames.skipped bytes ∷ rest) = ap suc (items-length o (p + length bytes) false s rest)
 items-length o p step s (Frames.unfinished bytes ∷ rest) = ap suc (items-length o (p + length bytes) step s rest)
+
+-- one step more, at the end of the others
+pub after-suc : (k : ℕ) (o : Order) (s : List ℕ) (c : Cursor) → after (suc k) o s c ≡ stepOf o s (after k o s c) .cursor
+unfolding after
+after-suc zero o s c = refl
+after-suc (suc k) o s c = after-suc k o s (stepOf o s c .cursor)
 
 -- ---- a cursor that the reader gave is never refused with 3
 

@@ -1,5 +1,5 @@
 -- One step of the reader.
-use Prim.Native.Nat.{ℕ, _+_}
+use Prim.Native.Nat.{ℕ, zero, suc, _+_}
 use mathlib.Core.Bool.{Bool, true, false, not}
 use mathlib.Core.List.{List, [], _∷_}
 use lib.Dec.{ltb}
@@ -82,3 +82,8 @@ stepOf o s c =
     pick (ltb (length s) (c .place)) (refused 2 c)
     (pick (both (c .«in_step») (not (goodState (c .state)))) (refused 3 c)
     (stepAhead o (drop (c .place) s) c))
+
+-- the cursor after so many steps
+unfoldable pub after : ℕ → Order → List ℕ → Cursor → Cursor
+after zero o s c = c
+after (suc k) o s c = after k o s (stepOf o s c .cursor)

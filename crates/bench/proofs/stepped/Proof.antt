@@ -4,13 +4,13 @@ use mathlib.Core.Path.{_≡_, ap, _∙_}
 use native.Mathlib.Numerals.{add-one}
 use native.Mathlib.Omega.{arith}
 use borrow.Author.Needs.{needs}
-use Rattle.reader.specs.Step.{stepOf}
-use Rattle.bench.specs.Plain.{after}
+use Rattle.reader.specs.Step.{newCursor, stepOf, after}
+use Rattle.reader.proofs.Theorems.{after-suc}
 use Rattle.bench.proofs.stepped.Statement.{statement}
 use Rattle.bench.proofs.stepped.Tie as tie
 
 abbrev Inv-loop : tie.InvT-loop
-Inv-loop order s steps cursor₀ k₀ cursor k = (k ≤ steps) × (cursor ≡ after order s k)
+Inv-loop order s steps cursor₀ k₀ cursor k = (k ≤ steps) × (cursor ≡ after k order s newCursor)
 
 abbrev μ-loop : tie.MeasureT-loop
 μ-loop order s steps cursor₀ k₀ cursor k = steps - k
@@ -32,11 +32,10 @@ loop-less : tie.Need-loop-less Inv-loop μ-loop
 loop-less c = search needs
 
 loop-again : tie.Need-loop-again Inv-loop μ-loop
-unfolding after
 loop-again c =
     let l = c .before .before .before .loop in
     let a = c .before .before .before .before .before .before .args in
-    (omega arith, rw add-one (c .before .step .ensures .cursor ∙ ap (λ d. stepOf (a .order) (a .s .now) d .cursor) (l .inv .1)))
+    (omega arith, rw (add-one, after-suc) (c .before .step .ensures .cursor ∙ ap (λ d. stepOf (a .order) (a .s .now) d .cursor) (l .inv .1)))
 
 returns : tie.Need-returns Inv-loop μ-loop
 returns c =
