@@ -35,6 +35,7 @@ use Rattle.reader.specs.declared.Item.the-variants.{PastEnd, BadState, End, Ski
 use Rattle.reader.specs.declared.Stepped.{Stepped}
 use Rattle.reader.proofs.Cursor.step.Reads as step
 use Rattle.reader.proofs.Laws.{unfit, step-ahead}
+use Rattle.reader.proofs.Theorems.{goes}
 use Rattle.reader.proofs.count.Reads as count
 use Rattle.writer.specs.declared.Written.{Written}
 use Rattle.writer.specs.declared.Written.the-variants.{Next}
@@ -116,11 +117,9 @@ no-constant-item κs r r′ i h h′ =
 
 -- ---- one that moves no cursor and copies no sample
 
-pub no-still-cursor : (κs : Lfts 1) (r : Stepped) → r .cursor ≡ newCursor → Steps κs newCursor iqdc r → ⊥
-unfolding stepOf gap shows starts kindOf kindIn known effect
-no-still-cursor κs r i h =
-    let e : _≡_ {A = ℕ} 0 12 = ap (λ (c : Cursor). c .place) (sym i ∙ h .1 .cursor) in
-    absurd (omega arith)
+-- before the end the cursor moves on, whatever the stream, where number 3 is not due
+pub no-resting-cursor : (κs : Lfts 1) (a : _) (r : Stepped) → Allows step.Post κs a r → a .0 .place < length (a .1 .1 .0 .now) → unfit (a .0) ≡ false → a .0 .place < r .cursor .place
+no-resting-cursor κs a r h l f = rw (h .1 .cursor) (goes (a .1 .0) (a .1 .1 .0 .now) (a .0) f l .on)
 
 -- an SSNC chunk with the time 5 and the pair 1, -1, and a cursor before it that knows packing and sample rate
 abbrev pub pair : List ℕ
