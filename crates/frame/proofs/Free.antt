@@ -6,22 +6,20 @@ use mathlib.Core.Bool.{Bool, true, false, not, _&&_, _||_}
 use native.Mathlib.Nat.{add-zero}
 use native.Mathlib.Omega.{arith}
 use borrow.Author.Count.{below-more}
-use borrow.Author.Tests.{eq-eqb, not-true, ltb-true, ltb-false}
+use borrow.Author.Tests.{eq-eqb, eqb-true, ltb-true, ltb-false}
 use lib.Dec.{eqb, ltb}
-use lib.ListN.{length, getD, drop, List·getD-append}
+use lib.ListN.{length, getD, drop, length-drop, List·getD-append}
 use lib.Seq.{getD-drop}
+use Rattle.num.specs.Choice.{pick}
 use Rattle.num.specs.declared.Order.{Order}
+use Rattle.num.specs.declared.Order.the-variants.{Big, Little}
 use Rattle.frame.specs.Free.{Free}
 use Rattle.frame.specs.Place.{syncBytes, starts, shows, stops, gap}
-use Rattle.frame.proofs.Laws.{never-true, sync-length, starts-split, none-passes, gap-step}
+use Rattle.frame.proofs.Laws.{never-true, sync-length, starts-split, starts-done, shows-cut, none-passes, gap-step}
 
 pub none-of : (a b : Bool) → a || b ≡ false → (a ≡ false) × (b ≡ false)
 none-of true b h = let z : _≡_ {A = ℕ} 0 1 = cc in absurd (omega arith)
 none-of false b h = (refl, h)
-
-pub both-of : (a b : Bool) → a && b ≡ true → (a ≡ true) × (b ≡ true)
-both-of true b h = (refl, h)
-both-of false b h = let z : _≡_ {A = ℕ} 0 1 = cc in absurd (omega arith)
 
 -- one place more, where its two bytes were compared
 pub free-more : (s : List ℕ) (a b from to : ℕ) → Free s a b from to → eqb (getD s to 0) a && eqb (getD s (to + 1) 0) b ≡ false → Free s a b from (to + 1)
@@ -30,10 +28,6 @@ free-more s a b from to f e =
     let h = rw (eq-eqb (getD s to 0) a p, eq-eqb (getD s (to + 1) 0) b q) at e in
     let z : _≡_ {A = ℕ} 0 1 = cc in
     omega arith)
-
--- or where its first byte is another
-pub free-other : (s : List ℕ) (a b from to n : ℕ) → n ≡ to + 1 → not (eqb (getD s to 0) a) ≡ true → Free s a b from to → Free s a b from n
-free-other s a b from to n e h f = rw e (free-more s a b from to f (rw (not-true (eqb (getD s to 0) a) h)))
 
 -- places one after the other
 join-by : (s : List ℕ) (a b from mid to k : ℕ) (t : Bool) → ltb k mid ≡ t → Free s a b from mid → Free s a b mid to → k < to → from ≤ k → getD s k 0 ≡ a → getD s (k + 1) 0 ≡ b → ⊥
@@ -71,3 +65,44 @@ pub free-to : (o : Order) (s w : List ℕ) (from to : ℕ) → w ≡ syncBytes o
 free-to o s w from to e h l f =
     let n : from + (to - from) ≡ to = omega arith in
     rw n at (free-gap o s from (to - from) (rw (n, ← e) f) (omega arith))
+
+-- ---- beyond a place that is no stop
+
+-- the sync word begins with a byte that it has nowhere else
+first-once : (o : Order) (j : ℕ) → 0 < j → j < 4 → getD (syncBytes o) j 0 ≡ getD (syncBytes o) 0 0 → ⊥
+first-once Big zero h l e = absurd (omega arith)
+first-once Big (suc zero) h l e = let z : _≡_ {A = ℕ} 178 161 = e in absurd (omega arith)
+first-once Big (suc (suc zero)) h l e = let z : _≡_ {A = ℕ} 195 161 = e in absurd (omega arith)
+first-once Big (suc (suc (suc zero))) h l e = let z : _≡_ {A = ℕ} 212 161 = e in absurd (omega arith)
+first-once Big (suc (suc (suc (suc j)))) h l e = absurd (omega arith)
+first-once Little zero h l e = absurd (omega arith)
+first-once Little (suc zero) h l e = let z : _≡_ {A = ℕ} 195 212 = e in absurd (omega arith)
+first-once Little (suc (suc zero)) h l e = let z : _≡_ {A = ℕ} 178 212 = e in absurd (omega arith)
+first-once Little (suc (suc (suc zero))) h l e = let z : _≡_ {A = ℕ} 161 212 = e in absurd (omega arith)
+first-once Little (suc (suc (suc (suc j)))) h l e = absurd (omega arith)
+
+module _ (o : Order) (s : List ℕ) (p : ℕ) where
+  -- so none begins within a whole one
+  free-within : starts (syncBytes o) (drop p s) ≡ true → Free s (getD (syncBytes o) 0 0) (getD (syncBytes o) 1 0) (p + 1) (p + 4)
+  free-within t k l h e q =
+      let n : p + (k - p) ≡ k = omega arith in
+      let r = rw n at (starts-at (syncBytes o) s p (k - p) (omega (arith, sync-length o)) t) in
+      first-once o (k - p) (omega arith) (omega arith) (sym r ∙ e)
+
+  -- a whole one that is no stop has a whole header
+  long-by : (b : Bool) → ltb (length (drop p s)) 12 ≡ b → starts (syncBytes o) (drop p s) ≡ true → stops (shows o (drop p s)) ≡ false → 12 ≤ length (drop p s)
+  long-by true c t f = let z = rw (shows-cut o (drop p s) t (ltb-true (length (drop p s)) 12 c)) at f in let y : _≡_ {A = ℕ} 0 1 = cc in absurd (omega arith)
+  long-by false c t f = ltb-false (length (drop p s)) 12 c
+
+  beyond-by : (w : List ℕ) (k : ℕ) (b : Bool) → eqb k 4 ≡ b → w ≡ syncBytes o → p + 4 ≤ length s → starts w (drop p s) ≡ starts (drop k w) (drop (p + k) s) → stops (shows o (drop p s)) ≡ false →
+      (p + 1 ≤ pick b (p + 4) (p + 1)) × (pick b (p + 4) (p + 1) < length s) × Free s (getD w 0 0) (getD w 1 0) (p + 1) (pick b (p + 4) (p + 1))
+  beyond-by w k false c e l h f = (omega arith, omega arith, λ j i m. absurd (omega arith))
+  beyond-by w k true c e l h f =
+      let n = eqb-true k 4 c in
+      let t = rw e at (h ∙ starts-done w (drop (p + k) s) k (omega (arith, n, sync-length o, ap length e))) in
+      (omega arith, omega (arith, long-by (ltb (length (drop p s)) 12) refl t f, length-drop p s), rw e (free-within t))
+
+  -- the next place to look at lies ahead, and none before it is a place to stop at
+  pub free-beyond : (w : List ℕ) (k : ℕ) → w ≡ syncBytes o → p + 4 ≤ length s → starts w (drop p s) ≡ starts (drop k w) (drop (p + k) s) → stops (shows o (drop p s)) ≡ false →
+      (p + 1 ≤ pick (eqb k 4) (p + 4) (p + 1)) × (pick (eqb k 4) (p + 4) (p + 1) < length s) × Free s (getD w 0 0) (getD w 1 0) (p + 1) (pick (eqb k 4) (p + 4) (p + 1))
+  free-beyond w k = beyond-by w k (eqb k 4) refl

@@ -1,8 +1,10 @@
 // Frames: the sync word, what a stream shows at a place, the search, and finding the byte order.
 ghost use mathlib.Core.Path.{_≡_};
 ghost use mathlib.Core.Bool.{true};
-ghost use Prim.Native.Nat.{ℕ, _+_, _≤_, _<_};
+ghost use Prim.Native.Nat.{_+_, _^_, _≤_, _<_};
+ghost use lib.Dec.{eqb};
 ghost use lib.ListN.{length, drop};
+ghost use Rattle.num.specs.Choice.{pick};
 ghost use Rattle.frame.specs.Free.{Free};
 ghost use Rattle.frame.specs.Place.{syncBytes, starts, goodSize, shows, searchFrom, orderOf, orderSaid};
 use num::Order;
@@ -98,25 +100,32 @@ fn free64(s: &[u8], p: usize, a: u8, b: u8) -> bool
     !hit
 }
 
-// Whether none of the four bytes from p on is a.
-fn free4(s: &[u8], p: usize, a: u8) -> bool
-    requires { ⌜ p + 4 ≤ length (now s) ⌝ }
-    ensures { λ r. ⌜ (r ≡ true → (b : ℕ) → Free (now (s .entry)) a b p (p + 4)) ⌝ }
+// The same of the eight places from p on.
+fn free8(s: &[u8], p: usize, a: u8, b: u8) -> bool
+    requires { ⌜ p + 9 ≤ length (now s) ⌝ }
+    ensures { λ r. ⌜ (r ≡ true → Free (now (s .entry)) a b p (p + 8)) ⌝ }
 {
-    (s[p] != a) & ((s[p + 1] != a) & ((s[p + 2] != a) & (s[p + 3] != a)))
+    let mut hit = false;
+    let mut k = 0;
+    while k < 8 {
+        let i = p + k;
+        hit = hit | ((s[i] == a) & (s[i + 1] == b));
+        k += 1;
+    }
+    !hit
 }
 
-// The place from `from` on, at most `to`, up to which whole groups of four bytes have no a.
-fn fours(s: &[u8], from: usize, to: usize, a: u8) -> usize
+// The place from `from` on, at most `to`, up to which no place of whole groups of eight has the bytes a and b in front.
+fn eights(s: &[u8], from: usize, to: usize, a: u8, b: u8) -> usize
     requires { ⌜ (from ≤ to) × (to < length (now s)) ⌝ }
-    ensures { λ r. ⌜ (from ≤ r) × (r ≤ to) × ((b : ℕ) → Free (now (s .entry)) a b from r) ⌝ }
+    ensures { λ r. ⌜ (from ≤ r) × (r ≤ to) × Free (now (s .entry)) a b from r ⌝ }
 {
     let mut p = from;
-    while 4 <= to - p {
-        if !free4(s, p, a) {
+    while 8 <= to - p {
+        if !free8(s, p, a, b) {
             return p;
         }
-        p += 4;
+        p += 8;
     }
     p
 }
@@ -126,7 +135,7 @@ fn near(s: &[u8], from: usize, to: usize, a: u8, b: u8) -> usize
     requires { ⌜ (from ≤ to) × (to < length (now s)) ⌝ }
     ensures { λ r. ⌜ (from ≤ r) × (r ≤ to) × Free (now (s .entry)) a b from r ⌝ }
 {
-    let mut p = fours(s, from, to, a);
+    let mut p = eights(s, from, to, a, b);
     while p < to {
         if (s[p] == a) & (s[p + 1] == b) {
             return p;
@@ -177,6 +186,15 @@ fn pass(s: &[u8], from: usize, a: u8, b: u8) -> usize
     blocks(s, p, a, b)
 }
 
+// The next place where the sync word may stand, where its first k bytes stand at p: its bytes differ, so that none begins
+// within the whole word.
+fn beyond(p: usize, k: usize) -> usize
+    requires { ⌜ p + 4 < 2 ^ 64 ⌝ }
+    ensures { λ r. ⌜ r ≡ pick (eqb k 4) (p + 4) (p + 1) ⌝ }
+{
+    if k == 4 { p + 4 } else { p + 1 }
+}
+
 // The search: the first place from `from` on that is complete or unfinished, or that there is none.
 pub fn search(order: Order, s: &[u8], from: usize) -> Found
     ensures { λ r. ⌜ r ≡ searchFrom order (now (s .entry)) from ⌝ }
@@ -209,7 +227,7 @@ pub fn search(order: Order, s: &[u8], from: usize) -> Found
             }
             k += 1;
         }
-        p = pass(s, p + 1, word[0], word[1]);
+        p = pass(s, beyond(p, k), word[0], word[1]);
     }
 }
 

@@ -13,11 +13,11 @@ Inv-loop s from to a b p₀ p = (from ≤ p) × (p ≤ to) × Free s a b from p
 abbrev μ-loop : tie.MeasureT-loop
 μ-loop s from to a b p₀ p = to - p
 
-fours-requires : tie.Need-fours-requires Inv-loop μ-loop
-fours-requires c κs = search needs
+eights-requires : tie.Need-eights-requires Inv-loop μ-loop
+eights-requires c κs = search needs
 
 loop-holds : tie.Need-loop-holds Inv-loop μ-loop
-loop-holds c = let f = c .fours .ensures in (f .0, f .1, f .2 (c .before .before .args .b))
+loop-holds c = c .eights .ensures
 
 shared-slice-read-if1 : tie.Need-shared-slice-read-if1 Inv-loop μ-loop
 shared-slice-read-if1 c = search needs
@@ -52,7 +52,7 @@ near-spec =
     (tie.spec
     Inv-loop
     μ-loop
-    fours-requires
+    eights-requires
     loop-holds
     shared-slice-read-if1
     add-if1

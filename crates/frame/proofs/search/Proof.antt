@@ -1,6 +1,6 @@
 -- The place reached with the gap before the first stop is the same at each turn: a turn passes a place that is no stop, and
 -- what follows it up to the next place with the word's first two bytes in front.
-use Prim.Native.Nat.{_+_, _-_, _≤_}
+use Prim.Native.Nat.{_+_, _-_, _<_, _≤_}
 use mathlib.Core.Path.{_≡_, refl, sym, ap, _∙_}
 use mathlib.Core.Bool.{true, false}
 use mathlib.Core.Logic.{⊎-elim}
@@ -11,9 +11,10 @@ use borrow.Author.Tests.{eq-eqb, ne-eqb}
 use lib.Dec.{eqb}
 use lib.ListN.{length, drop, getD}
 use Rattle.num.specs.Choice.{both}
+use Rattle.frame.specs.Free.{Free}
 use Rattle.frame.specs.Place.{starts, shows, stops, gap}
 use Rattle.frame.proofs.Laws.{sync-length, starts-step, starts-done, shows-none, gap-step, search-none, search-here, stop-told, pass-told}
-use Rattle.frame.proofs.Free.{free-to}
+use Rattle.frame.proofs.Free.{free-join, free-to, free-beyond}
 use Rattle.frame.proofs.search.Statement.{statement}
 use Rattle.frame.proofs.search.Tie as tie
 
@@ -123,8 +124,22 @@ passed c =
     rw (shows-none (a .order) l (rw (w .ensures) at b)))
     (c .if4 .came)
 
-add-pass : tie.Need-add-pass Inv-bytes μ-bytes Inv-places μ-places
-add-pass c = search needs
+-- the next place lies ahead, with no stop before it
+next : (c : tie.After-beyond Inv-bytes μ-bytes Inv-places μ-places) →
+    let h = c .before .before in
+    let s = h .before .before .before .before .before .before .before .before .args .s .now in
+    let w = h .before .before .before .before .u32-bytes .result in
+    let p = h .before .before .places .p in
+    (p + 1 ≤ c .beyond .result) × (c .beyond .result < length s) × Free s (getD w 0 0) (getD w 1 0) (p + 1) (c .beyond .result)
+next c =
+    let h = c .before .before in
+    let a = h .before .before .before .before .before .before .before .before .args in
+    let w = h .before .before .before .before .u32-bytes in
+    rw (c .beyond .ensures)
+    (free-beyond (a .order) (a .s .now) (h .before .before .places .p) (w .result) (h .bytes .k) (w .ensures) (omega arith) (h .bytes .inv .1) (passed (c .before)))
+
+beyond-requires : tie.Need-beyond-requires Inv-bytes μ-bytes Inv-places μ-places
+beyond-requires c κs = search needs
 
 array-read-pass : tie.Need-array-read-pass Inv-bytes μ-bytes Inv-places μ-places
 array-read-pass c = search needs
@@ -133,20 +148,23 @@ array-read-pass-2 : tie.Need-array-read-pass-2 Inv-bytes μ-bytes Inv-places μ-
 array-read-pass-2 c = search needs
 
 pass-requires : tie.Need-pass-requires Inv-bytes μ-bytes Inv-places μ-places
-pass-requires c κs = search needs
+pass-requires c κs = next c .1
 
 places-less : tie.Need-places-less Inv-bytes μ-bytes Inv-places μ-places
-places-less c = search needs
+places-less c = omega (arith, next (c .before) .0, next (c .before) .1)
 
 places-again : tie.Need-places-again Inv-bytes μ-bytes Inv-places μ-places
 places-again c =
-    let h = c .before .before in
+    let b = c .before in
+    let h = b .before .before in
     let a = h .before .before .before .before .before .before .before .before .args in
     let w = h .before .before .before .before .u32-bytes in
     let p = h .before .before .places in
     let r = c .pass in
-    let f = free-to (a .order) (a .s .now) (w .result) (p .p + 1) (r .result) (w .ensures) (r .ensures .0) (omega arith) (r .ensures .2) in
-    omega (arith, gap-step (a .order) (a .s .now) (p .p) (omega arith) (passed (c .before)), p .inv, f)
+    let n = next b in
+    let j = free-join (a .s .now) (getD (w .result) 0 0) (getD (w .result) 1 0) (p .p + 1) (b .beyond .result) (r .result) (n .2) (r .ensures .2) in
+    let f = free-to (a .order) (a .s .now) (w .result) (p .p + 1) (r .result) (w .ensures) (omega (arith, n .0)) (omega arith) j in
+    omega (arith, gap-step (a .order) (a .s .now) (p .p) (omega arith) (passed (b .before)), p .inv, f)
 
 returns-3 : tie.Need-returns-3 Inv-bytes μ-bytes Inv-places μ-places
 returns-3 c =
@@ -187,7 +205,7 @@ search-spec =
     add-k
     bytes-less
     bytes-again
-    add-pass
+    beyond-requires
     array-read-pass
     array-read-pass-2
     pass-requires
