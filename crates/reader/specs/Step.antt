@@ -1,4 +1,4 @@
--- One step of the reader.
+-- One step of the reader, and a run of steps.
 use Prim.Native.Nat.{ℕ, zero, suc, _+_}
 use mathlib.Core.Bool.{Bool, true, false, not}
 use mathlib.Core.List.{List, [], _∷_}

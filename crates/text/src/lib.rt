@@ -73,6 +73,53 @@ fn long(s: &[u8], i: usize) -> usize
     }
 }
 
+// Whether the n bytes from i on are plain, below 80 hex. The loop has no early way out, so that many bytes are compared at a time.
+fn plain(s: &[u8], i: usize, n: usize) -> bool
+    requires { ⌜ i + n ≤ length (now s) ⌝ }
+    ensures { λ r. ⌜ (r ≡ true → (k : ℕ) → k < n → getD (now (s .entry)) (i + k) 0 < 128) ⌝ }
+{
+    let mut top = 0u8;
+    let mut k = 0;
+    while k < n {
+        let b = s[i + k];
+        if top < b {
+            top = b;
+        }
+        k += 1;
+    }
+    top < 0x80
+}
+
+// Where whole groups of eight plain bytes lead from i on, at most to end.
+fn eights(s: &[u8], i: usize, end: usize) -> usize
+    requires { ⌜ (i ≤ end) × (end ≤ length (now s)) ⌝ }
+    ensures { λ r. ⌜ (i ≤ r) × (r ≤ end) × (isUtf8 (drop i (now (s .entry))) ≡ isUtf8 (drop r (now (s .entry)))) ⌝ }
+{
+    let mut at = i;
+    while 8 <= end - at {
+        if !plain(s, at, 8) {
+            return at;
+        }
+        at += 8;
+    }
+    at
+}
+
+// Where plain bytes lead from i on, at most to end.
+fn plains(s: &[u8], i: usize, end: usize) -> usize
+    requires { ⌜ (i ≤ end) × (end ≤ length (now s)) ⌝ }
+    ensures { λ r. ⌜ (i ≤ r) × (r ≤ end) × (isUtf8 (drop i (now (s .entry))) ≡ isUtf8 (drop r (now (s .entry)))) ⌝ }
+{
+    let mut at = eights(s, i, end);
+    while at < end {
+        if 0x80 <= s[at] {
+            return at;
+        }
+        at += 1;
+    }
+    at
+}
+
 // Where whole characters lead from i on: to end or past it, or to a place before end where no character stands.
 fn characters(s: &[u8], i: usize, end: usize) -> usize
     requires { ⌜ (i ≤ length (now s)) × (end ≤ length (now s)) ⌝ }
@@ -81,7 +128,7 @@ fn characters(s: &[u8], i: usize, end: usize) -> usize
     let mut at = i;
     while at < end {
         if s[at] < 0x80 {
-            at += 1;
+            at = plains(s, at + 1, end);
         } else {
             let n = long(s, at);
             if n == 0 {
@@ -93,23 +140,6 @@ fn characters(s: &[u8], i: usize, end: usize) -> usize
     at
 }
 
-// Whether the 32 bytes from i on are plain, below 80 hex. The loop has no early way out, so that many bytes are compared at a time.
-fn plain32(s: &[u8], i: usize) -> bool
-    requires { ⌜ i + 32 ≤ length (now s) ⌝ }
-    ensures { λ r. ⌜ (r ≡ true → (k : ℕ) → k < 32 → getD (now (s .entry)) (i + k) 0 < 128) ⌝ }
-{
-    let mut top = 0u8;
-    let mut k = 0;
-    while k < 32 {
-        let b = s[i + k];
-        if top < b {
-            top = b;
-        }
-        k += 1;
-    }
-    top < 0x80
-}
-
 // Whether the bytes are UTF-8. A block of plain bytes is passed over at once, any other by its characters.
 pub fn utf8(bytes: &[u8]) -> bool
     ensures { λ r. ⌜ r ≡ isUtf8 (now (bytes .entry)) ⌝ }
@@ -117,7 +147,7 @@ pub fn utf8(bytes: &[u8]) -> bool
     let mut i = 0;
     while 32 <= bytes.len() - i {
         let end = i + 32;
-        if plain32(bytes, i) {
+        if plain(bytes, i, 32) {
             i = end;
         } else {
             i = characters(bytes, i, end);

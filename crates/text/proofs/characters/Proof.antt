@@ -21,16 +21,20 @@ loop-holds c = (omega arith, refl)
 shared-slice-read-if1 : tie.Need-shared-slice-read-if1 Inv-loop μ-loop
 shared-slice-read-if1 c = search needs
 
-add-at : tie.Need-add-at Inv-loop μ-loop
-add-at c = search needs
+add-plains : tie.Need-add-plains Inv-loop μ-loop
+add-plains c = search needs
+
+plains-requires : tie.Need-plains-requires Inv-loop μ-loop
+plains-requires c κs = search needs
 
 loop-less : tie.Need-loop-less Inv-loop μ-loop
 loop-less c = search needs
 
 loop-again : tie.Need-loop-again Inv-loop μ-loop
 loop-again c =
-    let p = c .before .before .before in
-    (omega arith, p .loop .inv .1 ∙ pass-plain (p .before .before .args .s .now) (p .loop .at) (omega arith) (c .if1 .taken))
+    let p = c .before .before .before .before in
+    let r = c .plains .ensures in
+    (omega arith, p .loop .inv .1 ∙ pass-plain (p .before .before .args .s .now) (p .loop .at) (omega arith) (c .before .if1 .taken) ∙ r .2)
 
 long-requires : tie.Need-long-requires Inv-loop μ-loop
 long-requires c κs = search needs
@@ -41,8 +45,8 @@ returns c =
     let s = p .before .before .args .s .now in
     (p .loop .inv .0, p .loop .inv .1, λ h. stop s (p .loop .at) (omega arith) (sym (c .before .long .ensures) ∙ c .if2 .taken))
 
-add-at-2 : tie.Need-add-at-2 Inv-loop μ-loop
-add-at-2 c =
+add-at : tie.Need-add-at Inv-loop μ-loop
+add-at c =
     let p = c .before .before .before .before .before in
     omega (arith, at-most (p .before .before .args .s .now) (p .loop .at) (omega arith))
 
@@ -69,12 +73,13 @@ characters-spec =
     μ-loop
     loop-holds
     shared-slice-read-if1
-    add-at
+    add-plains
+    plains-requires
     loop-less
     loop-again
     long-requires
     returns
-    add-at-2
+    add-at
     loop-less-2
     loop-again-2
     returns-2)

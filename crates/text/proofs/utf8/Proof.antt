@@ -25,8 +25,8 @@ sub-loop c = search needs
 add-end : tie.Need-add-end Inv-loop μ-loop
 add-end c = search needs
 
-plain32-requires : tie.Need-plain32-requires Inv-loop μ-loop
-plain32-requires c κs = search needs
+plain-requires : tie.Need-plain-requires Inv-loop μ-loop
+plain-requires c κs = search needs
 
 loop-less : tie.Need-loop-less Inv-loop μ-loop
 loop-less c = search needs
@@ -35,7 +35,7 @@ loop-again : tie.Need-loop-again Inv-loop μ-loop
 loop-again c =
     let p = c .before .before .before in
     let s = p .before .before .args .bytes .now in
-    (omega arith, p .loop .inv .1 ∙ plain-run s (p .loop .i) 32 (omega arith) (c .before .plain32 .ensures (c .if1 .taken)))
+    (omega arith, p .loop .inv .1 ∙ plain-run s (p .loop .i) 32 (omega arith) (c .before .plain .ensures (c .if1 .taken)))
 
 characters-requires : tie.Need-characters-requires Inv-loop μ-loop
 characters-requires c κs = search needs
@@ -72,7 +72,7 @@ utf8-spec =
     loop-holds
     sub-loop
     add-end
-    plain32-requires
+    plain-requires
     loop-less
     loop-again
     characters-requires

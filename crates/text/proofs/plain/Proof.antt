@@ -6,14 +6,14 @@ use borrow.Author.Count.{below-more}
 use borrow.Author.Needs.{needs}
 use borrow.Author.Tests.{ltb-true}
 use lib.ListN.{getD}
-use Rattle.text.proofs.plain32.Statement.{statement}
-use Rattle.text.proofs.plain32.Tie as tie
+use Rattle.text.proofs.plain.Statement.{statement}
+use Rattle.text.proofs.plain.Tie as tie
 
 abbrev Inv-loop : tie.InvT-loop
-Inv-loop s i top₀ k₀ top k = (k ≤ 32) × ((j : ℕ) → j < k → getD s (i + j) 0 ≤ top)
+Inv-loop s i n top₀ k₀ top k = (k ≤ n) × ((j : ℕ) → j < k → getD s (i + j) 0 ≤ top)
 
 abbrev μ-loop : tie.MeasureT-loop
-μ-loop s i top₀ k₀ top k = 32 - k
+μ-loop s i n top₀ k₀ top k = n - k
 
 loop-holds : tie.Need-loop-holds Inv-loop μ-loop
 loop-holds c = (search needs, λ j h. absurd (omega arith))
@@ -43,8 +43,8 @@ loop-again c =
 returns : tie.Need-returns Inv-loop μ-loop
 returns c below j h = omega (arith, ltb-true, c .before .loop .inv .1 j (omega arith))
 
-pub plain32-spec : {M : Type 1} → statement M
-plain32-spec =
+pub plain-spec : {M : Type 1} → statement M
+plain-spec =
     tie.close
     (tie.spec
     Inv-loop
