@@ -11,10 +11,11 @@ use lib.Dec.{leb}
 use lib.ListN.{length, getD, take, drop, set, length-append, length-drop}
 use lib.Seq.{drop-cons, set-at, append-snoc, take-at, drop-at}
 use Rattle.num.specs.Choice.{pick, each}
-use Rattle.num.specs.Number.{number}
+use Rattle.num.specs.Number.{number, unsigned}
+use Rattle.num.specs.declared.Order.the-variants.{Big, Little}
 use Rattle.num.proofs.Laws.{elems, part-elems}
 use Rattle.num.proofs.Tests.{both-left, both-right, both-false, each-all, each-at, each-stop}
-use Rattle.copy.specs.Samples.{bytesAt, placeOf, iOf, qOf, pairsOf, realsOf, laid, inside, pairsFit, realsFit}
+use Rattle.copy.specs.Samples.{bytesAt, patternAt, placeOf, iOf, qOf, pairsOf, realsOf, laid, inside, pairsFit, realsFit}
 
 -- the bytes of a number, written out
 pub bytes-elems : (w : ℕ) (src : List ℕ) (k : ℕ) → (k + 1) * w ≤ length src → bytesAt w src k ≡ elems (k * w) 0 w src
@@ -22,19 +23,37 @@ bytes-elems w src k h =
     let e : (k + 1) * w ≡ k * w + 1 * w = add-mul k 1 w in
     rw add-zero at (part-elems (k * w) 0 w src (omega arith))
 
--- two numbers of two bytes out of one of four, in the little order and in the big
-pub little-halves : (a b c d : ℕ) → a < 256 → b < 256 → c < 256 → d < 256 →
+-- two numbers of two bytes out of one of four
+halves : (a b c d : ℕ) → a < 256 → b < 256 → c < 256 → d < 256 →
     let w : ℕ = number (a ∷ b ∷ c ∷ d ∷ []) in
     (w % 65536 ≡ number (a ∷ b ∷ [])) × (w / 65536 ≡ number (c ∷ d ∷ []))
-little-halves a b c d fa fb fc fd = (omega arith, omega arith)
+halves a b c d fa fb fc fd = (omega arith, omega arith)
 
-pub big-halves : (a b c d : ℕ) → a < 256 → b < 256 → c < 256 → d < 256 →
-    let w : ℕ = number (d ∷ c ∷ b ∷ a ∷ []) in
-    let r : ℕ = w / 65536 + w % 65536 * 65536 in
-    (r % 65536 ≡ number (b ∷ a ∷ [])) × (r / 65536 ≡ number (d ∷ c ∷ []))
-big-halves a b c d fa fb fc fd =
-    let h = little-halves d c b a fd fc fb fa in
-    rw (h .0, h .1) (omega arith, omega arith)
+-- a word's low half and its high are the pair's first number and its second in the little order, its second and its first in the big
+module _ (src : List ℕ) (place : ℕ) (h : (place + 1) * 4 ≤ length src) (small : (k : ℕ) → getD src k 0 < 256) where
+  whole : bytesAt 4 src place ≡ getD src (place * 4) 0 ∷ getD src (place * 4 + 1) 0 ∷ getD src (place * 4 + 2) 0 ∷ getD src (place * 4 + 3) 0 ∷ []
+  whole = rw (bytes-elems 4 src place h, add-zero (place * 4))
+
+  first : bytesAt 2 src (2 * place) ≡ getD src (place * 4) 0 ∷ getD src (place * 4 + 1) 0 ∷ []
+  first =
+      let e : 2 * place * 2 ≡ place * 4 = omega arith in
+      rw (bytes-elems 2 src (2 * place) (omega arith), e, add-zero (place * 4))
+
+  second : bytesAt 2 src (2 * place + 1) ≡ getD src (place * 4 + 2) 0 ∷ getD src (place * 4 + 3) 0 ∷ []
+  second =
+      let e : (2 * place + 1) * 2 ≡ place * 4 + 2 = omega arith in
+      let n : place * 4 + 2 + 1 ≡ place * 4 + 3 = omega arith in
+      rw (bytes-elems 2 src (2 * place + 1) (omega arith), e, add-zero (place * 4 + 2), n)
+
+  pub little-word : (patternAt Little src place % 65536 ≡ unsigned Little (bytesAt 2 src (2 * place))) × (patternAt Little src place / 65536 ≡ unsigned Little (bytesAt 2 src (2 * place + 1)))
+  little-word =
+      let p = place * 4 in
+      rw (whole, first, second) (halves (getD src p 0) (getD src (p + 1) 0) (getD src (p + 2) 0) (getD src (p + 3) 0) (small p) (small (p + 1)) (small (p + 2)) (small (p + 3)))
+
+  pub big-word : (patternAt Big src place % 65536 ≡ unsigned Big (bytesAt 2 src (2 * place + 1))) × (patternAt Big src place / 65536 ≡ unsigned Big (bytesAt 2 src (2 * place)))
+  big-word =
+      let p = place * 4 in
+      rw (whole, first, second) (halves (getD src (p + 3) 0) (getD src (p + 2) 0) (getD src (p + 1) 0) (getD src p 0) (small (p + 3)) (small (p + 2)) (small (p + 1)) (small p))
 
 module _ {A : Type 0} where
   -- one value more is laid

@@ -34,16 +34,35 @@ fn pattern_of(left: bool, a: u32, b: u32) -> u32
     if left { a } else { b }
 }
 
-// Two numbers that stand one after the other, in one: the first is its low half. A compiler makes one load of it.
-fn two_at(order: Order, src: &[u8], place: usize) -> u32
+// Two numbers that stand one after the other, read as one word. A compiler makes one load of the four bytes only where their
+// sum is used once: so each order has its own call, and what is done with the word stands in other functions.
+fn word_at(order: Order, src: &[u8], place: usize) -> u32
     requires { ⌜ (place + 1) * 4 ≤ length (now src) ⌝ }
-    ensures { λ r. ⌜ (r % 65536 ≡ unsigned order (bytesAt 2 (now (src .entry)) (2 * place))) × (r / 65536 ≡ unsigned order (bytesAt 2 (now (src .entry)) (2 * place + 1))) ⌝ }
+    ensures { λ r. ⌜ r ≡ patternAt order (now (src .entry)) place ⌝ }
 {
-    let p = place * 4;
-    let word = num::u32_of(order, [src[p], src[p + 1], src[p + 2], src[p + 3]]);
     match order {
-        Order::Big => word / 65536 + word % 65536 * 65536,
-        Order::Little => word,
+        Order::Big => pattern_at(Order::Big, src, place),
+        Order::Little => pattern_at(Order::Little, src, place),
+    }
+}
+
+// A word with its halves the other way round. A compiler makes one rotation of it.
+fn turned(word: u32) -> u32
+    ensures { λ r. ⌜ (r % 65536 ≡ word / 65536) × (r / 65536 ≡ word % 65536) ⌝ }
+{
+    word / 65536 + word % 65536 * 65536
+}
+
+// The pair at a place of the sample bytes in one word: I is its low half, Q its high. In the little order the pair's first
+// number is the low half as it stands, in the big order its second.
+fn two_at(order: Order, iq: bool, src: &[u8], place: usize) -> u32
+    requires { ⌜ (place + 1) * 4 ≤ length (now src) ⌝ }
+    ensures { λ r. ⌜ (r % 65536 ≡ unsigned order (bytesAt 2 (now (src .entry)) (iOf iq place))) × (r / 65536 ≡ unsigned order (bytesAt 2 (now (src .entry)) (qOf iq place))) ⌝ }
+{
+    let word = word_at(order, src, place);
+    match order {
+        Order::Big => { if iq { turned(word) } else { word } }
+        Order::Little => { if iq { word } else { turned(word) } }
     }
 }
 
@@ -59,39 +78,15 @@ fn high(two: u32) -> i16
     num::signed16((two / 65536) as u16)
 }
 
-// The numbers of the pair at a place of the sample bytes, laid as pair j of out as they stand. A compiler makes one store of it.
-fn straight(order: Order, src: &[u8], place: usize, j: usize, out: &mut [i16])
-    requires { ⌜ ((place + 1) * 4 ≤ length (now src)) × (2 * j + 1 < length (now out)) ⌝ }
-    ensures { λ _. ⌜ now (out .exit) ≡ set (set (now (out .entry)) (2 * j) (shortAt order (now (src .entry)) (2 * place))) (2 * j + 1) (shortAt order (now (src .entry)) (2 * place + 1)) ⌝ }
-{
-    let two = two_at(order, src, place);
-    let k = 2 * j;
-    out[k] = low(two);
-    out[k + 1] = high(two);
-}
-
-// The same, the second number before the first.
-fn crossed(order: Order, src: &[u8], place: usize, j: usize, out: &mut [i16])
-    requires { ⌜ ((place + 1) * 4 ≤ length (now src)) × (2 * j + 1 < length (now out)) ⌝ }
-    ensures { λ _. ⌜ now (out .exit) ≡ set (set (now (out .entry)) (2 * j) (shortAt order (now (src .entry)) (2 * place + 1))) (2 * j + 1) (shortAt order (now (src .entry)) (2 * place)) ⌝ }
-{
-    let a = short_at(order, src, 2 * place);
-    let b = short_at(order, src, 2 * place + 1);
-    let k = 2 * j;
-    out[k] = b;
-    out[k + 1] = a;
-}
-
-// The pair at a place of the sample bytes, laid as pair j of out.
+// The pair at a place of the sample bytes, laid as pair j of out. A compiler makes one store of it.
 fn short_pair(order: Order, iq: bool, src: &[u8], place: usize, j: usize, out: &mut [i16])
     requires { ⌜ ((place + 1) * 4 ≤ length (now src)) × (2 * j + 1 < length (now out)) ⌝ }
     ensures { λ _. ⌜ now (out .exit) ≡ set (set (now (out .entry)) (2 * j) (shortAt order (now (src .entry)) (iOf iq place))) (2 * j + 1) (shortAt order (now (src .entry)) (qOf iq place)) ⌝ }
 {
-    if iq {
-        straight(order, src, place, j, out)
-    } else {
-        crossed(order, src, place, j, out)
-    }
+    let two = two_at(order, iq, src, place);
+    let k = 2 * j;
+    out[k] = low(two);
+    out[k + 1] = high(two);
 }
 
 fn pattern_pair(order: Order, iq: bool, src: &[u8], place: usize, j: usize, out: &mut [u32])
@@ -258,7 +253,7 @@ pub fn short_reals(order: Order, src: &[u8], count: usize, out: &mut [i16]) -> b
     let twos = count / 2;
     let mut j = 0;
     while j < twos {
-        straight(order, src, j, j, out);
+        short_pair(order, true, src, j, j, out);
         j += 1;
     }
     if twos * 2 < count {

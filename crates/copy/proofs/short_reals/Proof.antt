@@ -38,8 +38,8 @@ loop-holds : tie.Need-loop-holds Inv-loop μ-loop
 unfolding realsOf
 loop-holds c = (omega arith, refl)
 
-straight-requires : tie.Need-straight-requires Inv-loop μ-loop
-straight-requires c κs = (omega arith, omega (arith, long (c .before .before)))
+short-pair-requires : tie.Need-short-pair-requires Inv-loop μ-loop
+short-pair-requires c κs = (omega arith, omega (arith, long (c .before .before)))
 
 add-j : tie.Need-add-j Inv-loop μ-loop
 add-j c = search needs
@@ -51,7 +51,7 @@ loop-again : tie.Need-loop-again Inv-loop μ-loop
 loop-again c =
     let l = c .before .before .before .before in
     let a = l .before .before .before .before .args in
-    (omega arith, rw (c .before .straight .ensures, l .loop .inv .1) (reals-two (shortAt (a .order) (a .src .now)) (a .out .now) (l .loop .j) (omega arith)))
+    (omega arith, rw (c .before .short-pair .ensures, l .loop .inv .1) (reals-two (shortAt (a .order) (a .src .now)) (a .out .now) (l .loop .j) (omega arith)))
 
 mul-if3 : tie.Need-mul-if3 Inv-loop μ-loop
 mul-if3 c = search needs
@@ -104,7 +104,7 @@ short-reals-spec =
     returns
     returns-2
     loop-holds
-    straight-requires
+    short-pair-requires
     add-j
     loop-less
     loop-again
