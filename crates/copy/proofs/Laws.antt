@@ -1,6 +1,6 @@
 -- Laws of copied samples: the numbers in order, values laid one by one, and when they fit.
 use Prim.Native.Nat.{ℕ, zero, suc, _+_, _-_, _*_, _/_, _%_, _≤_, _<_}
-use mathlib.Core.Path.{_≡_, refl, sym}
+use mathlib.Core.Path.{_≡_, refl, sym, _∙_}
 use mathlib.Core.Bool.{Bool, true, false}
 use mathlib.Core.List.{List, [], _∷_, _++_, append-assoc}
 use native.Mathlib.Omega.{arith}
@@ -122,6 +122,29 @@ module _ {A : Type 0} (value : ℕ → A) where
   pub reals-rest : (out : List A) (n : ℕ) → drop n (laid (realsOf value n) out) ≡ drop n out
   reals-rest out n = rw (drop-at (realsOf value n) _ n (length-reals n), length-reals n)
 
+-- pairs that stand one after the other, I first, are the numbers as they stand
+module _ {A : Type 0} (value : ℕ → A) where
+  pub pairs-reals : (first n : ℕ) → pairsOf value true first 1 n ≡ realsOf (λ k. value (2 * first + k)) (2 * n)
+  unfolding pairsOf realsOf
+  pairs-reals first zero = refl
+  pairs-reals first (suc n) =
+      let e : 2 * suc n ≡ suc (suc (2 * n)) = omega arith in
+      let a : 2 * (first + n * 1) ≡ 2 * first + 2 * n = omega arith in
+      let b : 2 * first + 2 * n + 1 ≡ 2 * first + suc (2 * n) = omega arith in
+      rw (e, a, b, pairs-reals first n) (sym (append-assoc (realsOf (λ k. value (2 * first + k)) (2 * n)) (value (2 * first + 2 * n) ∷ []) (value (2 * first + suc (2 * n)) ∷ [])))
+
+  -- from place 0 on
+  reals-same : (f : ℕ → ℕ) → ((k : ℕ) → f k ≡ k) → (n : ℕ) → realsOf (λ k. value (f k)) n ≡ realsOf value n
+  unfolding realsOf
+  reals-same f e zero = refl
+  reals-same f e (suc n) = rw (reals-same f e n, e n)
+
+  pub reals-first : (n : ℕ) → realsOf (λ k. value (0 + k)) n ≡ realsOf value n
+  reals-first n = reals-same (λ k. 0 + k) (λ k. omega arith) n
+
+  pub pairs-first : (n : ℕ) → pairsOf value true 0 1 n ≡ realsOf value (2 * n)
+  pairs-first n = pairs-reals 0 n ∙ reals-same (λ k. 2 * 0 + k) (λ k. omega arith) (2 * n)
+
 -- a pair lies inside where its place is below the number of places, by a division
 module _ (w size : ℕ) (pos : 0 < w) where
   place-inside : (place : ℕ) → place < size / (2 * w) → inside w size place ≡ true
@@ -143,7 +166,7 @@ module _ (w size first step pairs room : ℕ) (pos : 0 < w) where
   unfolding each
   fit-none e = rw (e, le-leb 0 room (omega arith))
 
-  fit-all : pairs ≤ room / 2 → ((j : ℕ) → j < pairs → placeOf first step j < size / (2 * w)) → pairsFit w size first step pairs room ≡ true
+  pub fit-all : pairs ≤ room / 2 → ((j : ℕ) → j < pairs → placeOf first step j < size / (2 * w)) → pairsFit w size first step pairs room ≡ true
   fit-all r h =
       rw (each-all (λ j. inside w size (placeOf first step j)) pairs (λ j l. place-inside w size pos (placeOf first step j) (h j l)))
       (le-leb (2 * pairs) room (omega arith))

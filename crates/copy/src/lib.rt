@@ -100,12 +100,33 @@ fn pattern_pair(order: Order, iq: bool, src: &[u8], place: usize, j: usize, out:
     out[k + 1] = pattern_of(iq, b, a);
 }
 
-// Pairs that stand one after the other. Without a step a compiler makes vectors of the loop.
-fn short_run(order: Order, iq: bool, src: &[u8], first: usize, pairs: usize, out: &mut [i16])
-    requires { ⌜ pairsFit 2 (length (now src)) first 1 pairs (length (now out)) ≡ true ⌝ }
+// How many words of four bytes come before the first that lies at a multiple of 16 bytes, where the first word stands at a
+// place; at most so many. Vectors are loaded faster from there on: a stream is taken to lie at such an address itself.
+fn lead(place: usize, most: usize) -> usize
+    ensures { λ r. ⌜ r ≤ most ⌝ }
+{
+    let words = (16 - place % 16) % 16 / 4;
+    if words < most { words } else { most }
+}
+
+// Pairs that stand one after the other, the first few by themselves. Without a step a compiler makes vectors of the loop.
+fn short_run(
+    order: Order,
+    iq: bool,
+    src: &[u8],
+    first: usize,
+    few: usize,
+    pairs: usize,
+    out: &mut [i16],
+)
+    requires { ⌜ (pairsFit 2 (length (now src)) first 1 pairs (length (now out)) ≡ true) × (few ≤ pairs) ⌝ }
     ensures { λ _. ⌜ now (out .exit) ≡ laid (pairsOf (shortAt order (now (src .entry))) iq first 1 pairs) (now (out .entry)) ⌝ }
 {
     let mut j = 0;
+    while j < few {
+        short_pair(order, iq, src, first + j, j, out);
+        j += 1;
+    }
     while j < pairs {
         short_pair(order, iq, src, first + j, j, out);
         j += 1;
@@ -119,6 +140,22 @@ fn pattern_run(order: Order, iq: bool, src: &[u8], first: usize, pairs: usize, o
     let mut j = 0;
     while j < pairs {
         pattern_pair(order, iq, src, first + j, j, out);
+        j += 1;
+    }
+}
+
+// Patterns that stand one after the other, the first few by themselves.
+fn patterns(order: Order, src: &[u8], first: usize, few: usize, count: usize, out: &mut [u32])
+    requires { ⌜ ((first + count) * 4 ≤ length (now src)) × (count ≤ length (now out)) × (few ≤ count) ⌝ }
+    ensures { λ _. ⌜ now (out .exit) ≡ laid (realsOf (λ k. patternAt order (now (src .entry)) (first + k)) count) (now (out .entry)) ⌝ }
+{
+    let mut j = 0;
+    while j < few {
+        out[j] = word_at(order, src, first + j);
+        j += 1;
+    }
+    while j < count {
+        out[j] = word_at(order, src, first + j);
         j += 1;
     }
 }
@@ -192,10 +229,12 @@ fn pairs_fit(
 }
 
 // The pairs of a channel: the first at the place first, each next one step places on. True where they fit and are copied,
-// I before Q whatever the packing; false where they do not, and then out is as it was.
+// I before Q whatever the packing; false where they do not, and then out is as it was. The place of src in its stream, at,
+// has no say in what is copied.
 pub fn short_pairs(
     order: Order,
     iq: bool,
+    at: usize,
     src: &[u8],
     first: usize,
     step: usize,
@@ -209,16 +248,19 @@ pub fn short_pairs(
         return false;
     }
     if step == 1 {
-        short_run(order, iq, src, first, pairs, out);
+        let few = lead(at % 16 + first % 4 * 4, pairs);
+        short_run(order, iq, src, first, few, pairs, out);
         return true;
     }
     short_steps(order, iq, src, first, step, pairs, out);
     true
 }
 
+// With I first the pairs are the numbers as they stand.
 pub fn pattern_pairs(
     order: Order,
     iq: bool,
+    at: usize,
     src: &[u8],
     first: usize,
     step: usize,
@@ -231,16 +273,24 @@ pub fn pattern_pairs(
     if !pairs_fit(4, src.len(), first, step, pairs, out.len()) {
         return false;
     }
-    if step == 1 {
-        pattern_run(order, iq, src, first, pairs, out);
+    if pairs == 0 {
         return true;
     }
-    pattern_steps(order, iq, src, first, step, pairs, out);
+    if step != 1 {
+        pattern_steps(order, iq, src, first, step, pairs, out);
+        return true;
+    }
+    if iq {
+        let few = lead(at % 16 + first % 2 * 8, 2 * pairs);
+        patterns(order, src, 2 * first, few, 2 * pairs, out);
+        return true;
+    }
+    pattern_run(order, iq, src, first, pairs, out);
     true
 }
 
 // The first numbers, one for each sample.
-pub fn short_reals(order: Order, src: &[u8], count: usize, out: &mut [i16]) -> bool
+pub fn short_reals(order: Order, at: usize, src: &[u8], count: usize, out: &mut [i16]) -> bool
     ensures { λ r. ⌜ r ≡ realsFit 2 (length (now (src .entry))) count (length (now (out .entry))) ⌝ }
     ensures { λ r. ⌜ now (out .exit) ≡ pick r (laid (realsOf (shortAt order (now (src .entry))) count) (now (out .entry))) (now (out .entry)) ⌝ }
 {
@@ -251,18 +301,14 @@ pub fn short_reals(order: Order, src: &[u8], count: usize, out: &mut [i16]) -> b
         return false;
     }
     let twos = count / 2;
-    let mut j = 0;
-    while j < twos {
-        short_pair(order, true, src, j, j, out);
-        j += 1;
-    }
+    short_run(order, true, src, 0, lead(at, twos), twos, out);
     if twos * 2 < count {
         out[twos * 2] = short_at(order, src, twos * 2);
     }
     true
 }
 
-pub fn pattern_reals(order: Order, src: &[u8], count: usize, out: &mut [u32]) -> bool
+pub fn pattern_reals(order: Order, at: usize, src: &[u8], count: usize, out: &mut [u32]) -> bool
     ensures { λ r. ⌜ r ≡ realsFit 4 (length (now (src .entry))) count (length (now (out .entry))) ⌝ }
     ensures { λ r. ⌜ now (out .exit) ≡ pick r (laid (realsOf (patternAt order (now (src .entry))) count) (now (out .entry))) (now (out .entry)) ⌝ }
 {
@@ -272,10 +318,6 @@ pub fn pattern_reals(order: Order, src: &[u8], count: usize, out: &mut [u32]) ->
     if out.len() < count {
         return false;
     }
-    let mut j = 0;
-    while j < count {
-        out[j] = pattern_at(order, src, j);
-        j += 1;
-    }
+    patterns(order, src, 0, lead(at, count), count, out);
     true
 }

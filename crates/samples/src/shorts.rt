@@ -12,21 +12,21 @@ use crate::Planned;
 use num::Order;
 use reader::Cursor;
 
-// The layout lies inside src.
-fn put(order: Order, src: &[u8], l: Layout, out: &mut [i16]) -> Copied
+// The layout lies inside src, which stands at a place of the stream.
+fn put(order: Order, at: usize, src: &[u8], l: Layout, out: &mut [i16]) -> Copied
     requires { ⌜ lies 2 (length (now src)) l ≡ true ⌝ }
     ensures { λ r. ⌜ copiedSaid r ≡ counted (length (now (out .entry))) l ⌝ }
     ensures { λ r. ⌜ now (out .exit) ≡ filled (counted (length (now (out .entry))) l) (gives l) (shortAt order (now (src .entry))) (now (out .entry)) ⌝ }
 {
     let count = l.count;
     if l.pairs {
-        let done = copy::short_pairs(order, l.iq, src, l.first, l.step, count, out);
+        let done = copy::short_pairs(order, l.iq, at, src, l.first, l.step, count, out);
         if done {
             return Copied::Count(2 * count);
         }
         return Copied::TooShort;
     }
-    let done = copy::short_reals(order, src, count, out);
+    let done = copy::short_reals(order, at, src, count, out);
     if done {
         return Copied::Count(count);
     }
@@ -43,7 +43,7 @@ pub fn copy(order: Order, s: &[u8], cursor: Cursor, channel: usize, out: &mut [i
         Planned::Go(layout, size) => {
             let from = place + 20;
             let to = place + 12 + size;
-            put(order, &s[from..to], layout, out)
+            put(order, from, &s[from..to], layout, out)
         }
         Planned::PastEnd => Copied::PastEnd,
         Planned::BadState => Copied::BadState,

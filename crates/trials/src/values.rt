@@ -196,7 +196,7 @@ fn shorts(
     let mut numbers = [0i16; 512];
     let time = num::i64_at(from, bytes, 0);
     let n = samples(bytes).len() / 2;
-    copy::short_reals(from, samples(bytes), n, &mut numbers);
+    copy::short_reals(from, 0, samples(bytes), n, &mut numbers);
     put_shorts(to, kind, time, &numbers, n, out, place)
 }
 
@@ -230,7 +230,7 @@ fn patterns(
     let mut numbers = [0u32; 512];
     let time = num::i64_at(from, bytes, 0);
     let n = samples(bytes).len() / 4;
-    copy::pattern_reals(from, samples(bytes), n, &mut numbers);
+    copy::pattern_reals(from, 0, samples(bytes), n, &mut numbers);
     put_patterns(to, kind, time, &numbers, n, out, place)
 }
 

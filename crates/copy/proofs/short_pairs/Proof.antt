@@ -24,15 +24,26 @@ fits c =
     let f = c .before .pairs-fit in
     rw (← f .ensures) (not-false (f .result) (c .if1 .left))
 
+mul-lead : tie.Need-mul-lead
+mul-lead c = search needs
+
+add-lead : tie.Need-add-lead
+add-lead c = search needs
+
+lead-requires : tie.Need-lead-requires
+lead-requires c κs = search needs
+
 short-run-requires : tie.Need-short-run-requires
-short-run-requires c κs = rw (c .before .if2 .taken) at (fits (c .before .before))
+short-run-requires c κs =
+    let t = c .before .before in
+    (rw (t .if2 .taken) at (fits (t .before)), c .before .lead .ensures)
 
 same-length : tie.Need-same-length
 same-length c = search needs
 
 returns-2 : tie.Need-returns-2
 returns-2 c =
-    let t = c .before .before .before in
+    let t = c .before .before .before .before in
     (sym (fits (t .before)), rw (t .if2 .taken) (c .before .short-run .ensures))
 
 short-steps-requires : tie.Need-short-steps-requires
@@ -50,6 +61,9 @@ short-pairs-spec =
     (tie.spec
     pairs-fit-requires
     returns
+    mul-lead
+    add-lead
+    lead-requires
     short-run-requires
     same-length
     returns-2

@@ -11,11 +11,11 @@ use Rattle.samples.proofs.shorts.put.Tie as tie
 short-pairs-requires : tie.Need-short-pairs-requires
 short-pairs-requires c κs = search needs
 
-mul-t12 : tie.Need-mul-t12
-mul-t12 c =
+mul-t13 : tie.Need-mul-t13
+mul-t13 c =
     let a = c .before .before .before .before .before .before .args in
     let e = c .before .before .short-pairs .ensures in
-    record { fits = omega (arith, pairs-fits (shortAt (a .order) (a .src .now)) 2 (length (a .src .now)) (length (a .out .now)) (a .l) (a .out .now) (c .before .before .before .before .before .before .pre) (c .before .before .before .before .if1 .taken) (sym (e .0) ∙ c .if2 .taken), c .before .before .before .before .before .before .good .1 .1 .1 .0) }
+    record { fits = omega (arith, pairs-fits (shortAt (a .order) (a .src .now)) 2 (length (a .src .now)) (length (a .out .now)) (a .l) (a .out .now) (c .before .before .before .before .before .before .pre) (c .before .before .before .before .if1 .taken) (sym (e .0) ∙ c .if2 .taken), c .before .before .before .before .before .before .good .1 .1 .1 .1 .0) }
 
 same-length : tie.Need-same-length
 same-length c = search needs
@@ -65,7 +65,7 @@ put-spec =
     tie.close
     (tie.spec
     short-pairs-requires
-    mul-t12
+    mul-t13
     same-length
     returns
     same-length-2
