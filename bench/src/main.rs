@@ -12,7 +12,12 @@ use ours::Number;
 use race::{middle, race, Run, Times};
 use second::write::write_record;
 use second::{count_items, search, Item, Kind, Order, Reader, Ready, Verdict};
+use std::hint::black_box;
 use table::{grown, table, Growth, Row};
+
+/// The bytes of the library's cursor and of what its step gives.
+const CURSOR: usize = 424;
+const ANSWER: usize = 888;
 
 fn main() {
     let mut rows = Vec::new();
@@ -50,18 +55,33 @@ fn row(rows: &mut Vec<Row>, work: String, bytes: usize, mut contestants: Vec<Run
     });
 }
 
-/// How many items are good, unknown or ready.
+/// Whether an item is a chunk that is good, unknown or ready.
+fn is_sound(item: &Item) -> bool {
+    matches!(
+        item,
+        Item::Chunk {
+            verdict: Verdict::Unknown | Verdict::Plain(_) | Verdict::Ready(_),
+            ..
+        }
+    )
+}
+
 fn sound(order: Order, s: &[u8]) -> usize {
-    let sound = |item: &Item| {
-        matches!(
-            item,
-            Item::Chunk {
-                verdict: Verdict::Unknown | Verdict::Plain(_) | Verdict::Ready(_),
-                ..
-            }
-        )
+    Reader::new(order, s).filter(is_sound).count()
+}
+
+/// The same, and beside each step what a step by value moves: the cursor comes in and goes into the answer, which shows a state
+/// beside it, and out of the answer into the next step.
+fn sound_by_value(order: Order, s: &[u8]) -> usize {
+    let (mut cursor, mut answer) = ([0; CURSOR / 8], [0; ANSWER / 8]);
+    let moved = |item: &Item| {
+        let (shown, next) = answer.split_at_mut((ANSWER - CURSOR) / 8);
+        shown.fill(0);
+        next.copy_from_slice(black_box(&cursor));
+        cursor.copy_from_slice(&black_box(&answer)[(ANSWER - CURSOR) / 8..]);
+        is_sound(item)
     };
-    Reader::new(order, s).filter(sound).count()
+    Reader::new(order, s).filter(moved).count()
 }
 
 fn steps(rows: &mut Vec<Row>) {
@@ -73,7 +93,9 @@ fn steps(rows: &mut Vec<Row>) {
             let work = format!("step, {what}, {}", order.name());
             let ours = || ours::step(order, &s);
             let rust = || sound(order, &s);
-            row(rows, work, s.len(), vec![Box::new(ours), Box::new(rust)]);
+            let limit = || sound_by_value(order, &s);
+            let contestants: Vec<Run> = vec![Box::new(ours), Box::new(rust), Box::new(limit)];
+            row(rows, work, s.len(), contestants);
         }
     }
 }
