@@ -1,7 +1,7 @@
 // Which states are good: every present value is one that the body table allows, and 0 stands where there is none.
 ghost use mathlib.Core.Path.{_≡_};
 ghost use lib.Signed.{leZ};
-ghost use lib.Dec.{leb};
+ghost use lib.Dec.{ltb, leb};
 ghost use Rattle.num.specs.Choice.{pick, both};
 ghost use Rattle.body.specs.Levels.{isFinite};
 ghost use Rattle.state.specs.Good.{isZero, isPlusZero, zeroOrOne, anyNumber, scale, offset, nothing, goodNumber, goodBand, goodLevel, goodFrom, goodHead, goodState};
@@ -104,6 +104,20 @@ fn good_scale(x: LevelHeld) -> bool
     )
 }
 
+// The larger of two numbers.
+fn most(a: u32, b: u32) -> u32
+    ensures { λ r. ⌜ r ≡ pick (ltb a b) b a ⌝ }
+{
+    if a < b { b } else { a }
+}
+
+// A number where the test holds, 0 where it does not.
+fn only(test: bool, x: u32) -> u32
+    ensures { λ r. ⌜ r ≡ pick test x 0 ⌝ }
+{
+    if test { x } else { 0 }
+}
+
 // Whether each place of a list holds what it may.
 pub struct Listed {
     pub offsets: bool,
@@ -111,34 +125,37 @@ pub struct Listed {
     pub gains: bool,
 }
 
-// In each list the first n places are used, and the others hold 0. An offset fits an int32. One loop goes over the three lists,
-// with no early way out, so that several places are tested at a time.
+// In each list the first n places are used, and the others hold 0: what is not 0 reaches no further than n. An offset fits an
+// int32, and a gain is finite. One loop goes over the three lists with no early way out, so that several places are tested at a
+// time.
 fn places(group: GroupPacking, frequencies: GroupHertz, gains: GroupGains) -> Listed
     ensures { λ r. ⌜ (r .offsets ≡ goodFrom offset nothing (group .n) 0 (group .offsets)) × (r .hertz ≡ goodFrom anyNumber isZero (frequencies .n) 0 (frequencies .values)) × (r .gains ≡ goodFrom isFinite isPlusZero (gains .n) 0 (gains .values)) ⌝ }
 {
     let offsets = group.offsets;
     let hertz = frequencies.values;
     let decibels = gains.values;
-    let mut a = true;
-    let mut b = true;
-    let mut c = true;
+    let mut largest = 0u32;
+    let mut endless = 0u32;
+    let mut a = 0u32;
+    let mut b = 0u32;
+    let mut c = 0u32;
     let mut i = 0;
     while i < 16 {
         let x = offsets[i];
         let y = hertz[i];
         let z = decibels[i];
-        let offset_fits = chosen(i < group.n, x < 0x8000_0000, x == 0);
-        let hertz_fits = chosen(i < frequencies.n, true, is_zero(y));
-        let gain_fits = chosen(i < gains.n, finite(z), plus_zero(z));
-        a = a & offset_fits;
-        b = b & hertz_fits;
-        c = c & gain_fits;
+        let end = (i + 1) as u32;
+        largest = most(largest, x);
+        endless = most(endless, only(!finite(z), 1));
+        a = most(a, only(x != 0, end));
+        b = most(b, only(!is_zero(y), end));
+        c = most(c, only(!plus_zero(z), end));
         i += 1;
     }
     Listed {
-        offsets: a,
-        hertz: b,
-        gains: c,
+        offsets: (largest < 0x8000_0000) & (a as usize <= group.n),
+        hertz: b as usize <= frequencies.n,
+        gains: (endless == 0) & (c as usize <= gains.n),
     }
 }
 
