@@ -1,13 +1,13 @@
 -- Laws of the tests that the code runs: a list's places one after the other, and single values.
 use Prim.Native.Nat.{ℕ, zero, suc, _+_, _-_, _^_, _<_, _≤_}
-use mathlib.Core.Path.{_≡_, refl, ap, sym, _∙_, subst}
+use mathlib.Core.Path.{_≡_, refl, ap, sym, _∙_}
 use mathlib.Core.Bool.{Bool, true, false, not, _&&_}
 use mathlib.Core.List.{List}
 use native.Mathlib.Nat.{zero-mul, zero-div}
 use native.Mathlib.Numerals.{add-one}
 use native.Mathlib.Omega.{arith}
 use lib.Dec.{T, eqb, ltb}
-use lib.Ieee.{Float, nan, inf, fin, binary32, ofBits, toBits, neg, lt, eq, isNan, fits}
+use lib.Ieee.{Float, nan, inf, fin, binary32, ofBits, toBits, neg, lt, eq, fits}
 use lib.Ieee.Bits.{ofBits-toBits}
 use lib.IntN.{ℤ, pos, negsuc}
 use lib.ListN.{length, drop, getD, drop-of-length-le}
@@ -58,13 +58,6 @@ between nan = refl
 between (inf true) = refl
 between (inf false) = refl
 between (fin s m e) = refl
-
--- what equals another float is no NaN
-pub equal-no-nan : (x y : Float) → eq x y ≡ true → T (not (isNan x))
-unfolding eq isNan
-equal-no-nan nan y h = absurd (subst T (sym h) tt)
-equal-no-nan (inf s) y h = tt
-equal-no-nan (fin s m e) y h = tt
 
 zero-of : (x : Float) → T (fits binary32 x) → toBits binary32 x ≡ 0 → x ≡ ofBits binary32 0
 zero-of x f h = sym (ofBits-toBits binary32 x f) ∙ ap (ofBits binary32) h

@@ -7,7 +7,7 @@ use Rattle.body.proofs.level.pattern.Statement.{statement}
 use Rattle.body.proofs.level.pattern.Tie as tie
 
 float-to-bits-result : tie.Need-float-to-bits-result
-float-to-bits-result c = equal-no-nan _ (c .if1 .taken)
+float-to-bits-result c = equal-no-nan _ _ (c .if1 .taken)
 
 returns : tie.Need-returns
 returns c = search needs

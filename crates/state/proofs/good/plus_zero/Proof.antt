@@ -1,7 +1,8 @@
 -- A float that equals 0 is no NaN, so it has a pattern, and the pattern 0 is +0's alone; what does not equal 0 is not +0.
 use mathlib.Core.Path.{sym}
 use borrow.Author.Needs.{needs}
-use Rattle.state.proofs.Tests.{equal-no-nan, plus-zero-pattern, unequal-zero}
+use Rattle.body.proofs.Nans.{equal-no-nan}
+use Rattle.state.proofs.Tests.{plus-zero-pattern, unequal-zero}
 use Rattle.state.proofs.good.plus_zero.Statement.{statement}
 use Rattle.state.proofs.good.plus_zero.Tie as tie
 
