@@ -84,30 +84,15 @@ pub fn look(order: Order, s: &[u8], place: usize) -> At
     headed(order, s, place)
 }
 
-// Whether no place of the 64 from p on has the bytes a and b in front. The loop has no early way out, so that many bytes are
+// Whether no place of the n from p on has the bytes a and b in front. The loop has no early way out, so that many bytes are
 // compared at a time.
-fn free64(s: &[u8], p: usize, a: u8, b: u8) -> bool
-    requires { ⌜ p + 65 ≤ length (now s) ⌝ }
-    ensures { λ r. ⌜ (r ≡ true → Free (now (s .entry)) a b p (p + 64)) ⌝ }
+fn free_run(s: &[u8], p: usize, n: usize, a: u8, b: u8) -> bool
+    requires { ⌜ p + n < length (now s) ⌝ }
+    ensures { λ r. ⌜ (r ≡ true → Free (now (s .entry)) a b p (p + n)) ⌝ }
 {
     let mut hit = false;
     let mut k = 0;
-    while k < 64 {
-        let i = p + k;
-        hit = hit | ((s[i] == a) & (s[i + 1] == b));
-        k += 1;
-    }
-    !hit
-}
-
-// The same of the eight places from p on.
-fn free8(s: &[u8], p: usize, a: u8, b: u8) -> bool
-    requires { ⌜ p + 9 ≤ length (now s) ⌝ }
-    ensures { λ r. ⌜ (r ≡ true → Free (now (s .entry)) a b p (p + 8)) ⌝ }
-{
-    let mut hit = false;
-    let mut k = 0;
-    while k < 8 {
+    while k < n {
         let i = p + k;
         hit = hit | ((s[i] == a) & (s[i + 1] == b));
         k += 1;
@@ -122,7 +107,7 @@ fn eights(s: &[u8], from: usize, to: usize, a: u8, b: u8) -> usize
 {
     let mut p = from;
     while 8 <= to - p {
-        if !free8(s, p, a, b) {
+        if !free_run(s, p, 8, a, b) {
             return p;
         }
         p += 8;
@@ -165,7 +150,7 @@ fn blocks(s: &[u8], from: usize, a: u8, b: u8) -> usize
     let end = s.len() - 1;
     let mut p = from;
     while 64 <= end - p {
-        if !free64(s, p, a, b) {
+        if !free_run(s, p, 64, a, b) {
             return near(s, p, end, a, b);
         }
         p += 64;

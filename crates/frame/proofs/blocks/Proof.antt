@@ -23,8 +23,8 @@ loop-holds c = (omega arith, omega arith, λ k l m. absurd (omega arith))
 sub-loop : tie.Need-sub-loop Inv-loop μ-loop
 sub-loop c = search needs
 
-free64-requires : tie.Need-free64-requires Inv-loop μ-loop
-free64-requires c κs = search needs
+free-run-requires : tie.Need-free-run-requires Inv-loop μ-loop
+free-run-requires c κs = search needs
 
 near-requires : tie.Need-near-requires Inv-loop μ-loop
 near-requires c κs = search needs
@@ -46,7 +46,7 @@ loop-again : tie.Need-loop-again Inv-loop μ-loop
 loop-again c =
     let l = c .before .before .before in
     let a = l .before .before .args in
-    let f = c .before .free64 in
+    let f = c .before .free-run in
     (omega arith, omega arith, free-join (a .s .now) (a .a) (a .b) (a .from) (l .loop .p) (l .loop .p + 64) (l .loop .inv .2) (f .ensures (not-false (f .result) (c .if1 .left))))
 
 near-requires-2 : tie.Need-near-requires-2 Inv-loop μ-loop
@@ -68,7 +68,7 @@ blocks-spec =
     sub-end
     loop-holds
     sub-loop
-    free64-requires
+    free-run-requires
     near-requires
     returns
     add-p

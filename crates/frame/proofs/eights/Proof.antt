@@ -20,8 +20,8 @@ loop-holds c = (omega arith, omega arith, λ k l m. absurd (omega arith))
 sub-loop : tie.Need-sub-loop Inv-loop μ-loop
 sub-loop c = search needs
 
-free8-requires : tie.Need-free8-requires Inv-loop μ-loop
-free8-requires c κs = search needs
+free-run-requires : tie.Need-free-run-requires Inv-loop μ-loop
+free-run-requires c κs = search needs
 
 returns : tie.Need-returns Inv-loop μ-loop
 returns c = c .before .before .before .loop .inv
@@ -36,7 +36,7 @@ loop-again : tie.Need-loop-again Inv-loop μ-loop
 loop-again c =
     let l = c .before .before .before in
     let a = l .before .before .args in
-    let f = c .before .free8 in
+    let f = c .before .free-run in
     let h = not-false (f .result) (c .if1 .left) in
     (omega arith, omega arith, free-join (a .s .now) (a .a) (a .b) (a .from) (l .loop .p) (l .loop .p + 8) (l .loop .inv .2) (f .ensures h))
 
@@ -51,7 +51,7 @@ eights-spec =
     μ-loop
     loop-holds
     sub-loop
-    free8-requires
+    free-run-requires
     returns
     add-p
     loop-less

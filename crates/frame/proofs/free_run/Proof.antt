@@ -7,14 +7,14 @@ use borrow.Author.Needs.{needs}
 use borrow.Author.Tests.{not-true}
 use Rattle.frame.specs.Free.{Free}
 use Rattle.frame.proofs.Free.{none-of, free-more}
-use Rattle.frame.proofs.free8.Statement.{statement}
-use Rattle.frame.proofs.free8.Tie as tie
+use Rattle.frame.proofs.free_run.Statement.{statement}
+use Rattle.frame.proofs.free_run.Tie as tie
 
 abbrev Inv-loop : tie.InvT-loop
-Inv-loop s p a b hit₀ k₀ hit k = (k ≤ 8) × (hit ≡ false → Free s a b p (p + k))
+Inv-loop s p n a b hit₀ k₀ hit k = (k ≤ n) × (hit ≡ false → Free s a b p (p + k))
 
 abbrev μ-loop : tie.MeasureT-loop
-μ-loop s p a b hit₀ k₀ hit k = 8 - k
+μ-loop s p n a b hit₀ k₀ hit k = n - k
 
 loop-holds : tie.Need-loop-holds Inv-loop μ-loop
 loop-holds c = (omega arith, λ h k l m. absurd (omega arith))
@@ -47,11 +47,11 @@ loop-again c =
 returns : tie.Need-returns Inv-loop μ-loop
 returns c h =
     let l = c .before .loop in
-    let n : l .k ≡ 8 = omega arith in
+    let n : l .k ≡ c .before .before .args .n = omega arith in
     rw n at (l .inv .1 (not-true (l .hit) h))
 
-pub free8-spec : {M : Type 1} → statement M
-free8-spec =
+pub free-run-spec : {M : Type 1} → statement M
+free-run-spec =
     tie.close
     (tie.spec
     Inv-loop
