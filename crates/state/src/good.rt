@@ -127,7 +127,7 @@ pub struct Listed {
 
 // In each list the first n places are used, and the others hold 0: what is not 0 reaches no further than n. An offset fits an
 // int32, and a gain is finite. One loop goes over the three lists with no early way out, so that several places are tested at a
-// time.
+// time. It notes the largest offset, 1 where a gain is endless, and in a, b and c how far each list reaches.
 fn places(group: GroupPacking, frequencies: GroupHertz, gains: GroupGains) -> Listed
     ensures { λ r. ⌜ (r .offsets ≡ goodFrom offset nothing (group .n) 0 (group .offsets)) × (r .hertz ≡ goodFrom anyNumber isZero (frequencies .n) 0 (frequencies .values)) × (r .gains ≡ goodFrom isFinite isPlusZero (gains .n) 0 (gains .values)) ⌝ }
 {
