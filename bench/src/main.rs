@@ -2,22 +2,20 @@
 
 mod inputs;
 mod limits;
+mod moves;
 mod ours;
 mod race;
 mod table;
 
 use inputs::{CHANNELS, MIB, SAMPLES};
 use limits::{by_bytes, by_memchr, by_windows};
+use moves::{ANSWER, CURSOR};
 use ours::Number;
 use race::{middle, race, Run, Times};
 use second::write::write_record;
 use second::{count_items, search, Item, Kind, Order, Reader, Ready, Verdict};
 use std::hint::black_box;
 use table::{grown, table, Growth, Row};
-
-/// The bytes of the library's cursor and of what its step gives.
-const CURSOR: usize = 424;
-const ANSWER: usize = 888;
 
 fn main() {
     let mut rows = Vec::new();
