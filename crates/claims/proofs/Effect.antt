@@ -1,8 +1,9 @@
--- What is said of a chunk, the state that it shows and the state that it leaves are one answer.
+-- What is said of a chunk, the state that it shows and the state that it leaves are one answer, and so is its data where it is ready.
 use mathlib.Core.Path.{sym, _∙_}
+use Rattle.effect.proofs.ask.ready_data.Reads as ready-data
 use Rattle.effect.proofs.take.take.Reads as take
 use Rattle.claims.proofs.Promise.{OneAnswer}
-use Rattle.claims.proofs.Told.{verdict-told}
+use Rattle.claims.proofs.Told.{asked-told, verdict-told}
 
 pub take-one-answer : OneAnswer take.Post
 take-one-answer κs a r r′ s s′ p q =
@@ -11,3 +12,6 @@ take-one-answer κs a r r′ s s′ p q =
       shown = (p .shown ∙ sym (q .shown)) i;
       state = (p .after ∙ sym (q .after)) i;
     }
+
+pub ready-data-one-answer : OneAnswer ready-data.Post
+ready-data-one-answer κs a r r′ s s′ p q = asked-told r r′ (p ∙ sym q)

@@ -10,6 +10,7 @@ use Rattle.body.specs.Levels.{levelSaid}
 use Rattle.body.specs.Numbers.{numberSaid, bandSaid}
 use Rattle.body.specs.Plain.{textSaid}
 use Rattle.body.specs.Samples.{dataSaid}
+use Rattle.body.specs.declared.data.Data.{Data}
 use Rattle.body.specs.declared.data.DataRead.{DataRead}
 use Rattle.body.specs.declared.data.DataRead.the-variants as D
 use Rattle.body.specs.declared.fault.Checked.{Checked}
@@ -24,7 +25,10 @@ use Rattle.body.specs.declared.number.Number.{Number}
 use Rattle.body.specs.declared.number.Number.the-variants as N
 use Rattle.body.specs.declared.plain.TextRead.{TextRead}
 use Rattle.body.specs.declared.plain.TextRead.the-variants as T
+use Rattle.effect.specs.Ready.{askedSaid}
 use Rattle.effect.specs.Says.{Says, ok, unknown, bad, waits, ready, verdictSaid}
+use Rattle.effect.specs.declared.ask.Asked.{Asked}
+use Rattle.effect.specs.declared.ask.Asked.the-variants as A
 use Rattle.effect.specs.declared.Lack.{Lack}
 use Rattle.effect.specs.declared.Lack.the-variants.{Packing, Rate, Scale}
 use Rattle.effect.specs.declared.Verdict.{Verdict}
@@ -97,6 +101,20 @@ checked-back (C.Malformed f) v = ap C.Malformed (fault-back f)
 
 pub checked-told : {A : Type 0} (x y : Checked) (v w : A) → checkedSaid x v ≡ checkedSaid y w → x ≡ y
 checked-told {A} x y v w e = sym (checked-back x v) ∙ ap (caseOf (λ (u : A). C.Good) C.Malformed) e ∙ checked-back y w
+
+-- ---- data that is ready, or none
+
+askedOf : Answer Data → Asked
+askedOf (gives d) = A.Ready d
+askedOf (refuses n) = A.NotReady
+
+asked-back : (x : Asked) → askedOf (askedSaid x) ≡ x
+unfolding askedOf
+asked-back (A.Ready d) = refl
+asked-back A.NotReady = refl
+
+pub asked-told : (x y : Asked) → askedSaid x ≡ askedSaid y → x ≡ y
+asked-told = told askedSaid askedOf asked-back
 
 -- ---- what the reader says of a chunk, and the item of a step
 

@@ -2,14 +2,14 @@
 use mathlib.Core.Bool.{Bool}
 use mathlib.Core.Path.{_≡_, refl, ap, _∙_}
 use Rattle.num.specs.Choice.{pick}
-use Rattle.num.specs.Answer.{Answer}
+use Rattle.num.specs.Answer.{Answer, gives, refuses}
 use Rattle.body.specs.Fault.{checkedSaid}
 use Rattle.body.specs.Groups.{Read}
 use Rattle.body.specs.declared.fault.Checked.{Checked}
 use Rattle.body.specs.declared.fault.Checked.the-variants.{Good, Malformed}
 use Rattle.state.specs.declared.State.{State}
 use Rattle.effect.specs.Says.{Says, verdictSaid, judged}
-use Rattle.effect.specs.Ready.{noState, inGroup}
+use Rattle.effect.specs.Ready.{noState, inGroup, readyData}
 use Rattle.effect.specs.Effect.{met, timed}
 use Rattle.effect.specs.Took.{Took}
 use Rattle.effect.specs.declared.Taken.{Taken}
@@ -33,3 +33,8 @@ judged-checked (Malformed f) v = refl
 -- a verdict that stands beside its value is what the rule says
 pub read-judged : {A : Type 0} {k : Checked} {v none : A} {rule : Answer A} → Read k v none rule → judged (checkedSaid k (tt {0})) ≡ judged rule
 read-judged {k = k} {v = v} h = judged-checked k v ∙ ap judged (h .said)
+
+-- a chunk that is no data is not ready
+pub not-data : {A : Type 0} (a : Answer A) → refuses 35 ≡ readyData (judged a)
+not-data (gives x) = refl
+not-data (refuses n) = refl

@@ -13,6 +13,8 @@ use Rattle.cover.specs.Cover.{groupCovers}
 use Rattle.state.specs.State.{emptied, withFrequencies, withGains}
 use Rattle.state.specs.declared.State.{State}
 use Rattle.effect.specs.Says.{Says, ok, unknown, bad, waits, ready}
+use Rattle.effect.specs.declared.ask.Asked.{Asked}
+use Rattle.effect.specs.declared.ask.Asked.the-variants.{Ready, NotReady}
 
 -- a malformed chunk has its number; a well-formed one waits for the first of packing, sample rate and float full scale that
 -- is lacking, and is ready where none is
@@ -50,3 +52,15 @@ gainsOf n g = pick (eqb (g .n) n) g noGains
 
 abbrev pub inGroup : State → State
 inGroup s = withGains (withFrequencies s (hertzOf (s .group .n) (s .frequencies))) (gainsOf (s .group .n) (s .gains))
+
+-- the data of a chunk that is ready; of any other there is none to copy: number 35
+abbrev pub readyData : Says → Answer Data
+readyData ok = refuses 35
+readyData unknown = refuses 35
+readyData (bad n) = refuses 35
+readyData (waits n t) = refuses 35
+readyData (ready d) = gives d
+
+abbrev pub askedSaid : Asked → Answer Data
+askedSaid (Ready d) = gives d
+askedSaid NotReady = refuses 35

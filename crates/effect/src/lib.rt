@@ -1,4 +1,5 @@
 // The effect of a chunk on the channel state: what is said of it, what it shows, and what it leaves.
+pub mod ask;
 mod ready;
 pub mod take;
 mod value;

@@ -1,5 +1,6 @@
 pub mod Laws
 pub mod Ready
+pub mod Asked
 pub mod AtCursor
 pub mod Lies
 pub mod Plans

@@ -48,7 +48,7 @@ module _ (channel : ℕ) (body : List ℕ) (s : State) (d : Data) (l : Layout) w
       let g = group-says (d .samples) (s .group .n) (s .group .increment) (s .group .offsets) k in
       rw (← h .1) (each-all (λ (j : ℕ). inside w (length body - 8) (placeOf (getD (s .group .offsets) channel 0) (s .group .increment) j)) (d .samples / s .group .n) (λ j q. inside-of w (length body - 8) (placeOf (getD (s .group .offsets) channel 0) (s .group .increment) j) (d .samples) (omega arith) (g .cover .each .inside channel j (ltb-true channel (s .group .n) (h .0)) q)))
 
-  pub layout-lies : (float : Bool) (shape : Shape) → hasWidth float shape ≡ true → IsReady shape body d s → arranged shape channel s d ≡ gives l → lies (wide float) (length body - 8) l ≡ true
+  pub layout-lies : {was : State} (float : Bool) (shape : Shape) → hasWidth float shape ≡ true → IsReady shape body d was s → arranged shape channel s d ≡ gives l → lies (wide float) (length body - 8) l ≡ true
   layout-lies false ShortPairs w r e = pairs-lie 2 (r .size) e
   layout-lies false ShortReals w r e = reals-lie 2 (r .size) e
   layout-lies false ShortGroup w r e = group-lies 2 (r .size) (r .cover) e

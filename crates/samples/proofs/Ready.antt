@@ -49,9 +49,12 @@ Covered FloatReals d g = Unit {0}
 Covered FloatGroup d g = groupCovers (d .samples) (g .n) (g .increment) (g .offsets) ≡ true
 Covered NoData d g = Unit {0}
 
-pub record IsReady (shape : Shape) (body : List ℕ) (d : Data) (shown : State) : Type 0 where
+-- in state s, with what is shown
+pub record IsReady (shape : Shape) (body : List ℕ) (d : Data) (s shown : State) : Type 0 where
   pub size : length body ≡ 8 + d .samples * bytesIn shape
   pub cover : Covered shape d (shown .group)
+  pub packing : shown .packing ≡ s .packing
+  pub group : shown .group ≡ s .group
 
 -- a size that is whole samples after the time
 timed-by : (w : ℕ) (body : List ℕ) (a b : Bool) (x d : Data) → leb 8 (length body) ≡ a → eqb ((length body - 8) % w) 0 ≡ b →
@@ -102,19 +105,19 @@ shown-by s d x e = rw e
 module _ (o : Order) (body : List ℕ) (s : State) (d : Data) where
   single-ready : (shape : Shape) (a : Answer Data) (p r t : Bool) → (a ≡ gives d → length body ≡ 8 + d .samples * bytesIn shape) → Covered shape d (s .group) →
       let y : Says = dataSays a p r t in
-      y ≡ ready d → IsReady shape body d (pick (isReady y) s noState)
-  single-ready shape a p r t q k e = rw (shown-by (dataSays a p r t) d s e) (record { size = q (says-by a p r t d e); cover = k })
+      y ≡ ready d → IsReady shape body d s (pick (isReady y) s noState)
+  single-ready shape a p r t q k e = rw (shown-by (dataSays a p r t) d s e) (record { size = q (says-by a p r t d e); cover = k; packing = refl; group = refl })
 
   group-ready : (shape : Shape) (a : Answer Data) (p r t : Bool) → (a ≡ gives d → length body ≡ 8 + d .samples * bytesIn shape) →
       (groupCovers (d .samples) (s .group .n) (s .group .increment) (s .group .offsets) ≡ true → Covered shape d (s .group)) →
       let y : Says = covering (s .group) (dataSays a p r t) in
-      y ≡ ready d → IsReady shape body d (pick (isReady y) (inGroup s) noState)
+      y ≡ ready d → IsReady shape body d s (pick (isReady y) (inGroup s) noState)
   group-ready shape a p r t q k e =
       let h = covering-by (s .group) (dataSays a p r t) d e in
-      rw (shown-by (covering (s .group) (dataSays a p r t)) d (inGroup s) e) (record { size = q (says-by a p r t d (h .1)); cover = k (h .0) })
+      rw (shown-by (covering (s .group) (dataSays a p r t)) d (inGroup s) e) (record { size = q (says-by a p r t d (h .1)); cover = k (h .0); packing = refl; group = refl })
 
   -- a chunk that is said to be ready, by its kind
-  pub effect-ready : (k : Kind) → effect o k body s .says ≡ ready d → IsReady (shapeOf k) body d (effect o k body s .shown)
+  pub effect-ready : (k : Kind) → effect o k body s .says ≡ ready d → IsReady (shapeOf k) body d s (effect o k body s .shown)
   unfolding effect shapeOf
   effect-ready SSNC e = single-ready ShortPairs (ssnc o body) (s .packing .present) (s .rate .present) true (timed-size 4 o body d) tt e
   effect-ready SSNR e = single-ready ShortReals (ssnr o body) true (s .rate .present) true (timed-size 2 o body d) tt e

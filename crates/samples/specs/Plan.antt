@@ -9,8 +9,9 @@ use Rattle.num.specs.Answer.{Answer, gives, refuses}
 use Rattle.num.specs.Choice.{pick, each}
 use Rattle.num.specs.declared.Order.{Order}
 use Rattle.copy.specs.Samples.{inside, placeOf}
+use Rattle.effect.specs.Effect.{Effect}
 use Rattle.reader.specs.declared.Cursor.{Cursor}
-use Rattle.samples.specs.Copy.{samplesAt}
+use Rattle.samples.specs.Copy.{layoutIn, samplesAt}
 use Rattle.samples.specs.declared.Laid.{Laid}
 use Rattle.samples.specs.declared.Laid.the-variants as laid
 use Rattle.samples.specs.declared.Layout.{Layout}
@@ -28,6 +29,10 @@ abbrev pub sizedBy : Laid → ℕ → Planned
 sizedBy (laid.At l) size = Go l size
 sizedBy laid.NoChannel size = NoChannel
 sizedBy laid.NotReady size = NotReady
+
+-- where the channel's numbers lie in a chunk of a type and an effect
+abbrev pub layoutOf : Bool → ℕ → ℕ → Effect → Answer Layout
+layoutOf float channel code e = layoutIn float channel (e .shown) (e .says) code
 
 -- how many bytes a number of the width has
 abbrev pub wide : Bool → ℕ

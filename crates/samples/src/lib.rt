@@ -5,15 +5,17 @@ pub mod shorts;
 ghost use mathlib.Core.Path.{_≡_};
 ghost use lib.ListN.{getD};
 ghost use Rattle.samples.specs.Layout.{shapeOf, hasWidth, alone, paired, real, oneOf, arranged, layout, laidSaid};
-ghost use Rattle.effect.specs.Says.{verdictSaid};
-ghost use Rattle.samples.specs.Plan.{plannedSaid, sizedBy, Sound};
-ghost use Rattle.samples.specs.Copy.{layoutIn, layoutAt};
+ghost use Rattle.body.specs.Kind.{kindOf};
+ghost use Rattle.effect.specs.Effect.{effect};
+ghost use Rattle.reader.specs.Step.{before};
+ghost use Rattle.samples.specs.Plan.{plannedSaid, sizedBy, layoutOf, Sound};
+ghost use Rattle.samples.specs.Copy.{layoutAt};
 use body::data::Data;
 use body::kind::Kind;
-use effect::Verdict;
+use effect::ask::Asked;
+use frame::At;
 use num::Order;
 use reader::Cursor;
-use reader::Item;
 use state::State;
 
 // Where a channel's numbers lie among those of a chunk: pairs, the first of them, the step from one to the next and how many;
@@ -200,53 +202,54 @@ fn laid_out(float: bool, shape: Shape, channel: usize, shown: State, d: Data) ->
     }
 }
 
-// The same of a chunk, by what is said of it.
-fn layout_in(float: bool, channel: usize, shown: State, verdict: Verdict, code: u32) -> Laid
-    ensures { λ r. ⌜ laidSaid r ≡ layoutIn float channel shown (verdictSaid verdict) code ⌝ }
+// The same of a chunk at a cursor. Nothing is ready for a reader that is searching: it has no sample rate.
+fn in_chunk(
+    order: Order,
+    code: u32,
+    body: &[u8],
+    cursor: Cursor,
+    channel: usize,
+    float: bool,
+) -> Laid
+    ensures { λ r. ⌜ laidSaid r ≡ layoutOf float channel code (effect order (kindOf code) (now (body .entry)) (before (cursor .«in_step») (cursor .state))) ⌝ }
 {
-    match verdict {
-        Verdict::Ready(d) => {
-            laid_out(
-                float,
-                shape_of(body::kind::kind_of(code)),
-                channel,
-                shown,
-                d,
-            )
-        }
-        Verdict::Good => Laid::NotReady,
-        Verdict::Unknown => Laid::NotReady,
-        Verdict::Malformed(_) => Laid::NotReady,
-        Verdict::NotCovered => Laid::NotReady,
-        Verdict::Waits(_, _) => Laid::NotReady,
+    if !cursor.in_step {
+        return Laid::NotReady;
+    }
+    let state = cursor.state;
+    let kind = body::kind::kind_of(code);
+    match effect::ask::ready_data(order, kind, body, state) {
+        Asked::Ready(d) => laid_out(float, shape_of(kind), channel, state, d),
+        Asked::NotReady => Laid::NotReady,
     }
 }
 
-// Where the channel lies in the chunk at the cursor.
+// Where the channel lies in the chunk at the cursor. No step is made: it would move a state that nobody asks for.
 fn plan(order: Order, s: &[u8], cursor: Cursor, channel: usize, float: bool) -> Planned
     ensures { λ r. ⌜ (plannedSaid r ≡ layoutAt float order (now (s .entry)) cursor channel) × Sound float order (now (s .entry)) cursor r ⌝ }
 {
-    let stepped = cursor.step(order, s);
-    let item = stepped.item;
-    let shown = stepped.shown;
-    match item {
-        Item::Chunk {
-            place: _,
-            code,
-            size,
-            verdict,
-        } => sized(layout_in(float, channel, shown, verdict, code), size),
-        Item::PastEnd => Planned::PastEnd,
-        Item::BadState => Planned::BadState,
-        Item::End => Planned::NotReady,
-        Item::Skipped {
-            place: _,
-            length: _,
-        } => Planned::NotReady,
-        Item::Unfinished {
-            place: _,
-            length: _,
-        } => Planned::NotReady,
+    let at = cursor.place;
+    if s.len() < at {
+        return Planned::PastEnd;
+    }
+    let state = cursor.state;
+    if cursor.in_step & !state.good() {
+        return Planned::BadState;
+    }
+    if at == s.len() {
+        return Planned::NotReady;
+    }
+    match frame::look(order, s, at) {
+        At::Complete { code, size } => {
+            let from = at + 12;
+            let to = from + size;
+            sized(
+                in_chunk(order, code, &s[from..to], cursor, channel, float),
+                size,
+            )
+        }
+        At::Unfinished => Planned::NotReady,
+        At::NoSync | At::Bad => Planned::NotReady,
     }
 }
 

@@ -1,21 +1,86 @@
--- The channel's place in the chunk that a step would give, which lies inside the stream.
-use mathlib.Core.Path.{sym, ap, _∙_}
-use Rattle.effect.specs.Says.{verdictSaid}
-use Rattle.reader.specs.Item.{itemSaid}
+-- The tests come in a step's order; a complete chunk is the one that a step would give.
+use mathlib.Core.Bool.{true, false}
+use mathlib.Core.Path.{_≡_, sym, ap, _∙_}
+use native.Mathlib.Omega.{arith}
+use lib.ListN.{drop}
+use Rattle.frame.specs.Place.{shows}
+use Rattle.frame.specs.declared.At.the-variants.{Complete}
+use Rattle.frame.proofs.Laws.{pass-told}
+use Rattle.reader.specs.Step.{stepBy, stepOf}
+use Rattle.reader.proofs.Laws.{unfit, step-past, step-unfit, step-end, step-ahead, step-skips, chunk-ends, chunk-body}
 use Rattle.samples.specs.Copy.{layoutAt}
 use Rattle.samples.proofs.Plans.{plan-chunk}
 use borrow.Author.Needs.{needs}
 use Rattle.samples.proofs.plan.Statement.{statement}
 use Rattle.samples.proofs.plan.Tie as tie
 
-step-requires : tie.Need-step-requires
-step-requires c κs = search needs
+returns : tie.Need-returns
+unfolding layoutAt
+returns c =
+    let a = c .before .before .args in
+    (rw (step-past (a .order) (a .s .now) (a .cursor) (c .if1 .taken)), tt)
 
-enum-known-item : tie.Need-enum-known-item
-enum-known-item c = search needs
+good-requires : tie.Need-good-requires
+good-requires c κs = search needs
 
-layout-in-requires : tie.Need-layout-in-requires
-layout-in-requires c κs = search needs
+returns-2 : tie.Need-returns-2
+unfolding layoutAt
+returns-2 c =
+    let a = c .before .before .before .before .before .before .args in
+    let k : unfit (a .cursor) ≡ true = rw (← c .before .before .good2 .ensures) (c .if2 .taken) in
+    (rw (step-unfit (a .order) (a .s .now) (a .cursor) (c .before .before .before .before .if1 .left) k), tt)
+
+-- past the test of number 3, it is not due
+fit : (c : tie.Else2) → unfit (c .before .before .before .before .before .before .args .cursor) ≡ false
+fit c = rw (← c .before .before .good2 .ensures) (c .if2 .left)
+
+returns-3 : tie.Need-returns-3
+unfolding layoutAt
+returns-3 c =
+    let a = c .before .before .before .before .before .before .before .args in
+    (rw (step-end (a .order) (a .s .now) (a .cursor) (c .if3 .taken) (fit (c .before))), tt)
+
+-- what was looked at, and the step that it makes
+told : (c : tie.After-known-told) →
+    let a = c .before .before .before .before .before .before .before .before .before .before .before .args in
+    shows (a .order) (drop (a .cursor .place) (a .s .now)) ≡ Complete (c .before .code .given .0 .0) (c .before .code .given .0 .1 .0)
+told c = sym (c .before .before .before .look .ensures) ∙ c .before .code .given .1
+
+ahead : (c : tie.After-look) →
+    let a = c .before .before .before .before .before .before .before .before .args in
+    let l = drop (a .cursor .place) (a .s .now) in
+    stepOf (a .order) (a .s .now) (a .cursor) ≡ stepBy (a .order) l (a .cursor) (c .look .result)
+ahead c =
+    let a = c .before .before .before .before .before .before .before .before .args in
+    step-ahead (a .order) (a .s .now) (a .cursor) (omega arith) (fit (c .before .before)) ∙ rw (← c .look .ensures)
+
+look-requires : tie.Need-look-requires
+look-requires c κs = search needs
+
+enum-known-code : tie.Need-enum-known-code
+enum-known-code c = search needs
+
+add-from : tie.Need-add-from
+add-from c = search needs
+
+add-to : tie.Need-add-to
+add-to c =
+    let a = c .before .before .before .before .before .before .before .before .before .before .before .args in
+    record { fits = omega (arith, chunk-ends (a .order) (a .s .now) (a .cursor .place) (c .before .code .given .0 .0) (c .before .code .given .0 .1 .0) (told c)) }
+
+sub-in-chunk : tie.Need-sub-in-chunk
+sub-in-chunk c = search needs
+
+part-in-chunk-start : tie.Need-part-in-chunk-start
+part-in-chunk-start c = search needs
+
+part-in-chunk-end : tie.Need-part-in-chunk-end
+part-in-chunk-end c =
+    let a = c .before .before .before .before .before .before .before .before .before .before .before .args in
+    chunk-ends (a .order) (a .s .now) (a .cursor .place) (c .before .code .given .0 .0) (c .before .code .given .0 .1 .0) (told c)
+
+in-chunk-requires : tie.Need-in-chunk-requires
+in-chunk-requires c κs = search needs
 
 sized-requires : tie.Need-sized-requires
 sized-requires c κs = search needs
@@ -23,64 +88,47 @@ sized-requires c κs = search needs
 enum-told : tie.Need-enum-told
 enum-told c = search needs
 
-enum-told-2 : tie.Need-enum-told-2
-enum-told-2 c = search needs
-
-enum-told-3 : tie.Need-enum-told-3
-enum-told-3 c = search needs
-
-enum-told-4 : tie.Need-enum-told-4
-enum-told-4 c = search needs
-
-enum-told-5 : tie.Need-enum-told-5
-enum-told-5 c = search needs
-
-returns : tie.Need-returns
-returns c =
-    let a = c .before .before .before .before .before .before .before .before .args in
-    let t = c .before .before .before .before .before .before .step .ensures in
-    let i = c .before .before .before .item .given in
-    let e = sym (t .item) ∙ ap itemSaid (i .1) in
-    rw (c .sized .ensures)
-    (plan-chunk (a .float) (a .order) (a .s .now) (a .cursor) (a .channel) (i .0 .0) (i .0 .1 .0) (i .0 .1 .1 .0) (verdictSaid (i .0 .1 .1 .1 .0)) e
-    (c .before .layout-in .result) (rw (← t .shown) (c .before .layout-in .ensures)))
-
-returns-2 : tie.Need-returns-2
-unfolding layoutAt
-returns-2 c = (rw (← c .before .before .before .step .ensures .item, c .enum-told .given .1), tt)
-
-returns-3 : tie.Need-returns-3
-unfolding layoutAt
-returns-3 c = (rw (← c .before .before .before .step .ensures .item, c .enum-told2 .given .1), tt)
-
 returns-4 : tie.Need-returns-4
-unfolding layoutAt
-returns-4 c = (rw (← c .before .before .before .step .ensures .item, c .enum-told3 .given .1), tt)
+returns-4 c =
+    let k = c .before .before .before in
+    let a = k .before .before .before .before .before .before .before .before .before .before .before .args in
+    let code = k .before .code .given .0 .0 in
+    let size = k .before .code .given .0 .1 .0 in
+    let t : stepOf (a .order) (a .s .now) (a .cursor) ≡ stepBy (a .order) (drop (a .cursor .place) (a .s .now)) (a .cursor) (Complete code size) =
+    ahead (k .before .before .before) ∙ rw (k .before .code .given .1) in
+    rw (c .sized .ensures)
+    (plan-chunk (a .float) (a .order) (a .s .now) (a .cursor) (a .channel) (a .cursor .place) code size _ (ap (λ x. x .item) t) (c .before .in-chunk .result)
+    (rw (t) ((rw (chunk-body (a .order) (a .s .now) (a .cursor .place) code size (told k)) at (c .before .in-chunk .ensures)))))
 
 returns-5 : tie.Need-returns-5
 unfolding layoutAt
-returns-5 c = (rw (← c .before .before .before .step .ensures .item, c .enum-told4 .given .1), tt)
+returns-5 c = (rw (ahead (c .before .before), c .enum-told .given .1), tt)
 
 returns-6 : tie.Need-returns-6
 unfolding layoutAt
-returns-6 c = (rw (← c .before .before .before .step .ensures .item, c .enum-told5 .given .1), tt)
+returns-6 c =
+    let h = c .before in
+    let a = h .before .before .before .before .before .before .before .before .args in
+    (rw (ahead h, step-skips (a .order) (drop (a .cursor .place) (a .s .now)) (a .cursor) (h .look .result) (pass-told (h .look .result) (c .match .keys3))), tt)
 
 pub plan-spec : {M : Type 1} → statement M
 plan-spec =
     tie.close
     (tie.spec
-    step-requires
-    enum-known-item
-    layout-in-requires
-    sized-requires
-    enum-told
-    enum-told-2
-    enum-told-3
-    enum-told-4
-    enum-told-5
     returns
+    good-requires
     returns-2
     returns-3
+    look-requires
+    enum-known-code
+    add-from
+    add-to
+    sub-in-chunk
+    part-in-chunk-start
+    part-in-chunk-end
+    in-chunk-requires
+    sized-requires
+    enum-told
     returns-4
     returns-5
     returns-6)
