@@ -1,6 +1,7 @@
 // The library's work behind plain numbers and slices, for a program that measures it.
 ghost use mathlib.Core.Path.{_≡_};
 ghost use mathlib.Core.Bool.{true, false};
+ghost use Prim.Native.Nat.{_≤_};
 ghost use lib.ListN.{length};
 ghost use Rattle.body.specs.Plain.{text};
 ghost use Rattle.effect.specs.Says.{verdictSaid};
@@ -79,22 +80,38 @@ fn sound_in(item: Item) -> usize
     }
 }
 
+// How far a reader came, and how many sound items it saw.
+struct Walked {
+    cursor: Cursor,
+    sound: usize,
+}
+
+// So many steps from a new cursor, or fewer where the stream ends before.
+fn walk(order: Order, s: &[u8], steps: usize) -> Walked
+    ensures { λ r. ⌜ r .cursor ≡ after steps order (now (s .entry)) newCursor ⌝ }
+    ensures { λ r. ⌜ (length (now (s .entry)) ≤ steps → r .sound ≡ soundCount (items order (now (s .entry)))) ⌝ }
+{
+    let mut cursor = Cursor::new();
+    let mut n = 0;
+    let mut k = 0;
+    while (cursor.place < s.len()) & (k < steps) {
+        let stepped = cursor.step(order, s);
+        let item = stepped.item;
+        let next = stepped.cursor;
+        n += sound_in(item);
+        cursor = next;
+        k += 1;
+    }
+    Walked { cursor, sound: n }
+}
+
 // How many items of a stream are sound, found by a step for each item.
 #[no_mangle]
 pub extern "C" fn bench_step(order: u32, s: &[u8]) -> usize
     ensures { λ r. ⌜ r ≡ soundCount (items (orderBy order) (now (s .entry))) ⌝ }
 {
-    let by = order_by(order);
-    let mut cursor = Cursor::new();
-    let mut n = 0;
-    while cursor.place < s.len() {
-        let stepped = cursor.step(by, s);
-        let item = stepped.item;
-        let next = stepped.cursor;
-        n += sound_in(item);
-        cursor = next;
-    }
-    n
+    let walked = walk(order_by(order), s, s.len());
+    walked.sound
 }
 
 // Where a search stops, the end where it does not.
@@ -146,21 +163,6 @@ pub extern "C" fn bench_write(
     next_of(writer::write(order_by(order), code, body, out, place))
 }
 
-// The cursor after so many steps from a new one.
-fn stepped(order: Order, s: &[u8], steps: usize) -> Cursor
-    ensures { λ r. ⌜ r ≡ after steps order (now (s .entry)) newCursor ⌝ }
-{
-    let mut cursor = Cursor::new();
-    let mut k = 0;
-    while k < steps {
-        let one = cursor.step(order, s);
-        let next = one.cursor;
-        cursor = next;
-        k += 1;
-    }
-    cursor
-}
-
 fn count_of(copied: Copied) -> usize
     ensures { λ r. ⌜ r ≡ given (copiedSaid copied) ⌝ }
 {
@@ -187,7 +189,8 @@ pub extern "C" fn bench_shorts(
     ensures { λ _. ⌜ now (out .exit) ≡ filled (countOf false (orderBy order) (now (s .entry)) (after steps (orderBy order) (now (s .entry)) newCursor) channel (length (now (out .entry)))) (layoutAt false (orderBy order) (now (s .entry)) (after steps (orderBy order) (now (s .entry)) newCursor) channel) (shortAt (orderBy order) (samplesAt (orderBy order) (now (s .entry)) (after steps (orderBy order) (now (s .entry)) newCursor))) (now (out .entry)) ⌝ }
 {
     let by = order_by(order);
-    count_of(samples::shorts::copy(by, s, stepped(by, s, steps), channel, out))
+    let walked = walk(by, s, steps);
+    count_of(samples::shorts::copy(by, s, walked.cursor, channel, out))
 }
 
 // The same of 32-bit patterns.
@@ -203,5 +206,6 @@ pub extern "C" fn bench_patterns(
     ensures { λ _. ⌜ now (out .exit) ≡ filled (countOf true (orderBy order) (now (s .entry)) (after steps (orderBy order) (now (s .entry)) newCursor) channel (length (now (out .entry)))) (layoutAt true (orderBy order) (now (s .entry)) (after steps (orderBy order) (now (s .entry)) newCursor) channel) (patternAt (orderBy order) (samplesAt (orderBy order) (now (s .entry)) (after steps (orderBy order) (now (s .entry)) newCursor))) (now (out .entry)) ⌝ }
 {
     let by = order_by(order);
-    count_of(samples::patterns::copy(by, s, stepped(by, s, steps), channel, out))
+    let walked = walk(by, s, steps);
+    count_of(samples::patterns::copy(by, s, walked.cursor, channel, out))
 }

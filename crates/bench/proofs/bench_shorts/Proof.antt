@@ -8,8 +8,8 @@ use Rattle.bench.proofs.bench_shorts.Tie as tie
 order-by-requires : tie.Need-order-by-requires
 order-by-requires c κs = search needs
 
-stepped-requires : tie.Need-stepped-requires
-stepped-requires c κs = search needs
+walk-requires : tie.Need-walk-requires
+walk-requires c κs = search needs
 
 copy-requires : tie.Need-copy-requires
 copy-requires c κs = search needs
@@ -24,14 +24,14 @@ returns : tie.Need-returns
 returns c =
     let k = c .before .before in
     let e = k .copy .ensures in
-    rw (← k .before .before .before .order-by .ensures, ← k .before .before .stepped .ensures) (c .count-of .ensures ∙ ap given (e .0), e .1)
+    rw (← k .before .before .before .order-by .ensures, ← k .before .before .walk .ensures .0) (c .count-of .ensures ∙ ap given (e .0), e .1)
 
 pub bench-shorts-spec : {M : Type 1} → statement M
 bench-shorts-spec =
     tie.close
     (tie.spec
     order-by-requires
-    stepped-requires
+    walk-requires
     copy-requires
     count-of-requires
     same-length
