@@ -2,14 +2,14 @@
 use Prim.Native.Nat.{ℕ, zero, suc, _+_, _-_, _*_, _/_, _%_, _≤_, _<_}
 use mathlib.Core.Path.{_≡_, refl, sym, _∙_}
 use mathlib.Core.Bool.{Bool, true, false}
-use mathlib.Core.List.{List, [], _∷_, _++_, append-assoc}
+use mathlib.Core.List.{List, [], _∷_, _++_, append-assoc, append-nil}
 use native.Mathlib.Omega.{arith}
 use native.Mathlib.Numerals.{add-one}
-use native.Mathlib.Nat.{add-zero, add-mul, le-div-iff-mul-le, div-lt-iff-lt-mul, mul-le-mul-right}
-use borrow.Author.Tests.{le-leb, lt-leb, leb-true, leb-false}
-use lib.Dec.{leb}
+use native.Mathlib.Nat.{add-zero, zero-add, add-suc, suc-add, add-mul, le-div-iff-mul-le, div-lt-iff-lt-mul, mul-le-mul-right}
+use borrow.Author.Tests.{le-leb, lt-leb, leb-true, leb-false, eqb-true, eqb-false}
+use lib.Dec.{leb, eqb}
 use lib.ListN.{length, getD, take, drop, set, length-append, length-drop}
-use lib.Seq.{drop-cons, set-at, append-snoc, take-at, drop-at}
+use lib.Seq.{drop-cons, drop-drop, set-at, append-snoc, take-at, drop-at, getD-set-same, getD-set-other}
 use Rattle.num.specs.Choice.{pick, each}
 use Rattle.num.specs.Number.{number, unsigned}
 use Rattle.num.specs.declared.Order.the-variants.{Big, Little}
@@ -93,6 +93,48 @@ module _ {A : Type 0} (value : ℕ → A) (iq : Bool) (first step : ℕ) where
 
   pub pairs-rest : (out : List A) (n : ℕ) → drop (2 * n) (laid (pairsOf value iq first step n) out) ≡ drop (2 * n) out
   pairs-rest out n = rw (drop-at (pairsOf value iq first step n) _ (2 * n) (length-pairs n), length-pairs n)
+
+module _ {A : Type 0} where
+  -- a store behind a front
+  set-behind : (front back : List A) (k : ℕ) (x : A) → set (front ++ back) (length front + k) x ≡ front ++ set back k x
+  set-behind [] back k x = rw (zero-add k)
+  set-behind (y ∷ front) back k x = rw (suc-add (length front) k, set-behind front back k x)
+
+  -- where each of the first k elements is as wanted, so are they with one more
+  module _ (Wanted : ℕ → A → Type 0) (xs : List A) (k : ℕ) (x d : A) (h : k < length xs) where
+    wanted-by : (m : ℕ) (b : Bool) → eqb m k ≡ b → m < k + 1 → Wanted k x → (m < k → Wanted m (getD xs m d)) → Wanted m (getD (set xs k x) m d)
+    wanted-by m true e l w r = let i : m ≡ k = eqb-true m k e in rw (i, getD-set-same xs k x d h) w
+    wanted-by m false e l w r = let i = eqb-false m k e in rw (getD-set-other xs k m x d i) (r (omega arith))
+
+    pub wanted-next : Wanted k x → ((m : ℕ) → m < k → Wanted m (getD xs m d)) → (m : ℕ) → m < k + 1 → Wanted m (getD (set xs k x) m d)
+    wanted-next w r m l = wanted-by m (eqb m k) refl l w (r m)
+
+module _ {A : Type 0} (value : ℕ → A) (iq : Bool) (first step : ℕ) where
+  -- one pair more behind a front of n pairs
+  pub behind-next : (front back : List A) (n j : ℕ) → length front ≡ 2 * n → 2 * j + 1 < length back →
+      set (set (front ++ laid (pairsOf value iq first step j) back) (2 * (n + j)) (value (iOf iq (placeOf first step j)))) (2 * (n + j) + 1) (value (qOf iq (placeOf first step j)))
+      ≡ front ++ laid (pairsOf value iq first step (j + 1)) back
+  behind-next front back n j e h =
+      let i : 2 * (n + j) ≡ length front + 2 * j = omega arith in
+      let q : length front + 2 * j + 1 ≡ length front + (2 * j + 1) = omega arith in
+      rw (i, q, set-behind front, set-behind front, pairs-next value iq first step back j h)
+
+  -- pairs, and then those that follow them
+  pairs-more : (j n : ℕ) → pairsOf value iq first step j ++ pairsOf value iq (placeOf first step j) step n ≡ pairsOf value iq first step (j + n)
+  unfolding pairsOf
+  pairs-more j zero = rw (add-zero j) (append-nil (pairsOf value iq first step j))
+  pairs-more j (suc n) =
+      let e : first + j * step + n * step ≡ first + (j + n) * step = omega (arith, add-mul j n step) in
+      rw (add-suc j n, e, ← append-assoc, pairs-more j n)
+
+  -- pairs laid behind those before them
+  pub pairs-behind : (out : List A) (j n : ℕ) →
+      let front = laid (pairsOf value iq first step j) out in
+      take (2 * j) front ++ laid (pairsOf value iq (placeOf first step j) step n) (drop (2 * j) front) ≡ laid (pairsOf value iq first step (j + n)) out
+  pairs-behind out j n =
+      let l : length (pairsOf value iq (placeOf first step j) step n) ≡ 2 * n = length-pairs value iq (placeOf first step j) step n in
+      let m : length (pairsOf value iq first step (j + n)) ≡ 2 * j + 2 * n = omega (arith, length-pairs value iq first step (j + n)) in
+      rw (pairs-front value iq first step out j, pairs-rest value iq first step out j, l, m, drop-drop, ← append-assoc, pairs-more j n)
 
 module _ {A : Type 0} (value : ℕ → A) where
   pub length-reals : (n : ℕ) → length (realsOf value n) ≡ n

@@ -2,7 +2,8 @@
 ghost use mathlib.Core.Path.{_≡_};
 ghost use mathlib.Core.Bool.{true};
 ghost use Prim.Native.Nat.{_+_, _*_, _/_, _%_, _≤_, _<_};
-ghost use lib.ListN.{length, set};
+ghost use mathlib.Core.List.{_++_};
+ghost use lib.ListN.{length, take, drop, set};
 ghost use mir.Syntax.{w16};
 ghost use mir.Val.{toZ};
 ghost use Rattle.num.specs.Choice.{pick};
@@ -133,6 +134,78 @@ fn short_run(
     }
 }
 
+// Whether numbers stand in the big order.
+fn is_big(order: Order) -> bool
+    ensures { λ r. ⌜ order ≡ pick r Order.Big Order.Little ⌝ }
+{
+    match order {
+        Order::Big => true,
+        Order::Little => false,
+    }
+}
+
+// Sixteen pairs of the big order with I first, laid as pairs j on, once all of them are read: so a compiler needs no test for
+// overlap and makes one block of vectors of it.
+fn short_block(src: &[u8], place: usize, j: usize, out: &mut [i16])
+    requires { ⌜ ((place + 16) * 4 ≤ length (now src)) × (2 * (j + 16) ≤ length (now out)) ⌝ }
+    ensures { λ _. ⌜ now (out .exit) ≡ take (2 * j) (now (out .entry)) ++ laid (pairsOf (shortAt Order.Big (now (src .entry))) true place 1 16) (drop (2 * j) (now (out .entry))) ⌝ }
+{
+    let mut words = [0u32; 16];
+    let mut k = 0;
+    while k < 16 {
+        words[k] = two_at(Order::Big, true, src, place + k);
+        k += 1;
+    }
+    let mut i = 0;
+    while i < 16 {
+        let at = 2 * (j + i);
+        out[at] = low(words[i]);
+        out[at + 1] = high(words[i]);
+        i += 1;
+    }
+}
+
+// Pairs of the big order with I first that stand one after the other, the first few by themselves and then sixteen at a
+// time: two shuffles for each vector make a loop that the machine's issue width binds, so its turns are long.
+fn short_blocks(src: &[u8], first: usize, few: usize, pairs: usize, out: &mut [i16])
+    requires { ⌜ (pairsFit 2 (length (now src)) first 1 pairs (length (now out)) ≡ true) × (few ≤ pairs) ⌝ }
+    ensures { λ _. ⌜ now (out .exit) ≡ laid (pairsOf (shortAt Order.Big (now (src .entry))) true first 1 pairs) (now (out .entry)) ⌝ }
+{
+    let mut j = 0;
+    while j < few {
+        short_pair(Order::Big, true, src, first + j, j, out);
+        j += 1;
+    }
+    while 16 <= pairs - j {
+        short_block(src, first + j, j, out);
+        j += 16;
+    }
+    while j < pairs {
+        short_pair(Order::Big, true, src, first + j, j, out);
+        j += 1;
+    }
+}
+
+// Pairs that stand one after the other.
+fn short_line(
+    order: Order,
+    iq: bool,
+    src: &[u8],
+    first: usize,
+    few: usize,
+    pairs: usize,
+    out: &mut [i16],
+)
+    requires { ⌜ (pairsFit 2 (length (now src)) first 1 pairs (length (now out)) ≡ true) × (few ≤ pairs) ⌝ }
+    ensures { λ _. ⌜ now (out .exit) ≡ laid (pairsOf (shortAt order (now (src .entry))) iq first 1 pairs) (now (out .entry)) ⌝ }
+{
+    if is_big(order) & iq {
+        short_blocks(src, first, few, pairs, out);
+        return;
+    }
+    short_run(order, iq, src, first, few, pairs, out);
+}
+
 fn pattern_run(order: Order, iq: bool, src: &[u8], first: usize, pairs: usize, out: &mut [u32])
     requires { ⌜ pairsFit 4 (length (now src)) first 1 pairs (length (now out)) ≡ true ⌝ }
     ensures { λ _. ⌜ now (out .exit) ≡ laid (pairsOf (patternAt order (now (src .entry))) iq first 1 pairs) (now (out .entry)) ⌝ }
@@ -249,7 +322,7 @@ pub fn short_pairs(
     }
     if step == 1 {
         let few = lead(at % 16 + first % 4 * 4, pairs);
-        short_run(order, iq, src, first, few, pairs, out);
+        short_line(order, iq, src, first, few, pairs, out);
         return true;
     }
     short_steps(order, iq, src, first, step, pairs, out);
@@ -301,7 +374,7 @@ pub fn short_reals(order: Order, at: usize, src: &[u8], count: usize, out: &mut 
         return false;
     }
     let twos = count / 2;
-    short_run(order, true, src, 0, lead(at, twos), twos, out);
+    short_line(order, true, src, 0, lead(at, twos), twos, out);
     if twos * 2 < count {
         out[twos * 2] = short_at(order, src, twos * 2);
     }

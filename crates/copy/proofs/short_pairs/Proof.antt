@@ -33,8 +33,8 @@ add-lead c = search needs
 lead-requires : tie.Need-lead-requires
 lead-requires c κs = search needs
 
-short-run-requires : tie.Need-short-run-requires
-short-run-requires c κs =
+short-line-requires : tie.Need-short-line-requires
+short-line-requires c κs =
     let t = c .before .before in
     (rw (t .if2 .taken) at (fits (t .before)), c .before .lead .ensures)
 
@@ -44,7 +44,7 @@ same-length c = search needs
 returns-2 : tie.Need-returns-2
 returns-2 c =
     let t = c .before .before .before .before in
-    (sym (fits (t .before)), rw (t .if2 .taken) (c .before .short-run .ensures))
+    (sym (fits (t .before)), rw (t .if2 .taken) (c .before .short-line .ensures))
 
 short-steps-requires : tie.Need-short-steps-requires
 short-steps-requires c κs = fits (c .before .before)
@@ -64,7 +64,7 @@ short-pairs-spec =
     mul-lead
     add-lead
     lead-requires
-    short-run-requires
+    short-line-requires
     same-length
     returns-2
     short-steps-requires

@@ -24,8 +24,8 @@ returns-2 c =
 lead-requires : tie.Need-lead-requires
 lead-requires c κs = search needs
 
-short-run-requires : tie.Need-short-run-requires
-short-run-requires c κs =
+short-line-requires : tie.Need-short-line-requires
+short-line-requires c κs =
     let a = c .before .before .before .before .before .args in
     (fit-all 2 (length (a .src .now)) 0 1 (a .count / 2) (length (a .out .now)) (omega arith) (omega arith) (λ j l. omega arith), c .before .lead .ensures)
 
@@ -58,7 +58,7 @@ returns-3 c =
     let q : a .count / 2 * 2 ≡ 2 * (a .count / 2) = omega arith in
     let n : 2 * (a .count / 2) + 1 ≡ a .count = omega arith in
     let back : toZ w16 (ofZ w16 (c .short-at .result)) ≡ c .short-at .result = search needs in
-    let twos = rw (pairs-first v (a .count / 2)) at (o .before .short-run .ensures) in
+    let twos = rw (pairs-first v (a .count / 2)) at (o .before .short-line .ensures) in
     let next = rw n at (reals-next v (a .out .now) (2 * (a .count / 2)) (omega arith)) in
     (sym (reals-fit 2 (length (a .src .now)) (a .count) (length (a .out .now)) (omega arith) (omega arith)), rw (back, c .short-at .ensures, q, twos) next)
 
@@ -70,7 +70,7 @@ returns-4 c =
     let o = c .before in
     let a = o .before .before .before .before .before .before .before .args in
     let n : 2 * (a .count / 2) ≡ a .count = omega arith in
-    (sym (reals-fit 2 (length (a .src .now)) (a .count) (length (a .out .now)) (omega arith) (omega arith)), rw (pairs-first (shortAt (a .order) (a .src .now)) (a .count / 2), n) at (o .before .short-run .ensures))
+    (sym (reals-fit 2 (length (a .src .now)) (a .count) (length (a .out .now)) (omega arith) (omega arith)), rw (pairs-first (shortAt (a .order) (a .src .now)) (a .count / 2), n) at (o .before .short-line .ensures))
 
 pub short-reals-spec : {M : Type 1} → statement M
 short-reals-spec =
@@ -79,7 +79,7 @@ short-reals-spec =
     returns
     returns-2
     lead-requires
-    short-run-requires
+    short-line-requires
     mul-if3
     mul-short-at
     short-at-requires
