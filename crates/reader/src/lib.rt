@@ -125,7 +125,8 @@ impl Cursor {
             return still(Item::PastEnd, self);
         }
         let state = self.state;
-        if self.in_step & !state.good() {
+        // The two halves of the test are short enough to be inlined one by one.
+        if self.in_step & !(state.good_values() & state.good_lists()) {
             return still(Item::BadState, self);
         }
         if at == s.len() {

@@ -233,7 +233,8 @@ fn plan(order: Order, s: &[u8], cursor: Cursor, channel: usize, float: bool) -> 
         return Planned::PastEnd;
     }
     let state = cursor.state;
-    if cursor.in_step & !state.good() {
+    // The two halves of the test are short enough to be inlined one by one.
+    if cursor.in_step & !(state.good_values() & state.good_lists()) {
         return Planned::BadState;
     }
     if at == s.len() {

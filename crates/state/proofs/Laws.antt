@@ -1,13 +1,13 @@
 -- Laws of good states: the parts of one, one with a part put anew, absent values, and lists of values that are allowed.
 use Prim.Native.Nat.{ℕ, zero, suc, _<_, _≤_}
 use mathlib.Core.Path.{_≡_, refl, sym, _∙_}
-use mathlib.Core.Bool.{Bool, true, false}
+use mathlib.Core.Bool.{Bool, true, false, _&&_, and-assoc}
 use lib.Dec.{ltb}
 use lib.Ieee.{Float, ofBits}
 use lib.IntN.{ℤ, pos}
 use lib.Signed.{leZ}
 use borrow.Author.Tests.{le-leb, ltb-true}
-use Rattle.num.specs.Choice.{pick}
+use Rattle.num.specs.Choice.{pick, both}
 use Rattle.num.proofs.Tests.{both-true}
 use Rattle.body.specs.Groups.{noPacking, noHertz, noGains}
 use Rattle.body.specs.Levels.{isFinite}
@@ -20,7 +20,7 @@ use Rattle.state.specs.declared.BandHeld.{BandHeld}
 use Rattle.state.specs.declared.LevelHeld.{LevelHeld}
 use Rattle.state.specs.declared.State.{State}
 use Rattle.state.specs.State.{noNumber, noBand, noLevel, emptied, withPacking, withRate, withBand, withGroupBand, withCentre, withFullScale, withTotalGain, withFloatScale, withGroup, withFrequencies, withGains, withMark}
-use Rattle.state.specs.Good.{zeroOrOne, anyNumber, scale, goodNumber, goodBand, goodLevel, goodFrom, goodList, goodGroup, goodFrequencies, goodGains, goodState}
+use Rattle.state.specs.Good.{zeroOrOne, anyNumber, scale, offset, nothing, goodNumber, goodBand, goodLevel, goodFrom, goodList, goodHead, goodGroup, goodFrequencies, goodGains, goodState, goodValues, goodLists}
 
 -- ---- the parts of a good state
 
@@ -63,6 +63,16 @@ good-parts s g =
       frequencies = j .1;
       gains = k .1;
     }
+
+-- ---- the two halves of the test
+
+-- a state is good where its values and its lists are: the group's head is among the values, and its offsets are a list
+pub values-and-lists : (s : State) → goodState s ≡ both (goodValues s) (goodLists s)
+unfolding goodState goodValues goodLists
+values-and-lists s =
+    let g = s .group in
+    let split : (x : Bool) → goodGroup g && x ≡ goodHead g && (goodList offset nothing (g .n) (g .offsets) && x) = and-assoc (goodHead g) _ in
+    simp (and-assoc, split)
 
 -- ---- a part put anew: its test is true as the old part's was, so nothing else of the state's test changes
 

@@ -97,3 +97,23 @@ goodState s =
     && goodGroup (s .group)
     && goodFrequencies (s .frequencies)
     && goodGains (s .gains)
+
+-- the values that are no lists are good, and so is the head of the group packing
+unfoldable pub goodValues : State → Bool
+goodValues s =
+    goodNumber zeroOrOne (s .packing)
+    && goodNumber (leZ (pos 1)) (s .rate)
+    && goodBand (s .band)
+    && goodNumber (leZ (pos 0)) (s .«group_band»)
+    && goodNumber anyNumber (s .centre)
+    && goodLevel isFinite (s .«full_scale»)
+    && goodLevel isFinite (s .«total_gain»)
+    && goodLevel scale (s .«float_scale»)
+    && goodHead (s .group)
+
+-- the three lists are good
+unfoldable pub goodLists : State → Bool
+goodLists s =
+    goodList offset nothing (s .group .n) (s .group .offsets)
+    && goodFrequencies (s .frequencies)
+    && goodGains (s .gains)

@@ -4,7 +4,7 @@ ghost use lib.Signed.{leZ};
 ghost use lib.Dec.{ltb, leb};
 ghost use Rattle.num.specs.Choice.{pick, both};
 ghost use Rattle.body.specs.Levels.{isFinite};
-ghost use Rattle.state.specs.Good.{isZero, isPlusZero, zeroOrOne, anyNumber, scale, offset, nothing, goodNumber, goodBand, goodLevel, goodFrom, goodHead, goodState};
+ghost use Rattle.state.specs.Good.{isZero, isPlusZero, zeroOrOne, anyNumber, scale, offset, nothing, goodNumber, goodBand, goodLevel, goodFrom, goodHead, goodState, goodValues, goodLists};
 use crate::BandHeld;
 use crate::Held;
 use crate::LevelHeld;
@@ -180,14 +180,11 @@ fn good_list(n: usize, listed: bool) -> bool
 }
 
 impl State {
-    // Whether a reader in step takes this state; one that is not good is refused with number 3.
-    pub fn good(self) -> bool
-        ensures { λ r. ⌜ r ≡ goodState self ⌝ }
+    // The values that are no lists, and the head of the group packing.
+    pub fn good_values(self) -> bool
+        ensures { λ r. ⌜ r ≡ goodValues self ⌝ }
     {
         let group = self.group;
-        let frequencies = self.frequencies;
-        let gains = self.gains;
-        let lists = places(group, frequencies, gains);
         good_packing(self.packing)
             & good_at_least(1, self.rate)
             & good_band(self.band)
@@ -196,8 +193,26 @@ impl State {
             & good_level(self.full_scale)
             & good_level(self.total_gain)
             & good_scale(self.float_scale)
-            & (good_head(group) & good_list(group.n, lists.offsets))
+            & good_head(group)
+    }
+
+    // The three lists: up to 16 channels each, and every place as it may be.
+    pub fn good_lists(self) -> bool
+        ensures { λ r. ⌜ r ≡ goodLists self ⌝ }
+    {
+        let group = self.group;
+        let frequencies = self.frequencies;
+        let gains = self.gains;
+        let lists = places(group, frequencies, gains);
+        good_list(group.n, lists.offsets)
             & good_list(frequencies.n, lists.hertz)
             & good_list(gains.n, lists.gains)
+    }
+
+    // Whether a reader in step takes this state; one that is not good is refused with number 3.
+    pub fn good(self) -> bool
+        ensures { λ r. ⌜ r ≡ goodState self ⌝ }
+    {
+        self.good_values() & self.good_lists()
     }
 }

@@ -3,9 +3,12 @@ use mathlib.Core.Bool.{true, false}
 use mathlib.Core.Path.{_≡_, sym, ap, _∙_}
 use native.Mathlib.Omega.{arith}
 use lib.ListN.{drop}
+use Rattle.num.specs.Choice.{both}
 use Rattle.frame.specs.Place.{shows}
 use Rattle.frame.specs.declared.At.the-variants.{Complete}
 use Rattle.frame.proofs.Laws.{pass-told}
+use Rattle.state.specs.Good.{goodState}
+use Rattle.state.proofs.Laws.{values-and-lists}
 use Rattle.reader.specs.Step.{stepBy, stepOf}
 use Rattle.reader.proofs.Laws.{unfit, step-past, step-unfit, step-end, step-ahead, step-skips, chunk-ends, chunk-body}
 use Rattle.samples.specs.Copy.{layoutAt}
@@ -20,38 +23,45 @@ returns c =
     let a = c .before .before .args in
     (rw (step-past (a .order) (a .s .now) (a .cursor) (c .if1 .taken)), tt)
 
-good-requires : tie.Need-good-requires
-good-requires c κs = search needs
+good-values-requires : tie.Need-good-values-requires
+good-values-requires c κs = search needs
+
+good-lists-requires : tie.Need-good-lists-requires
+good-lists-requires c κs = search needs
+
+-- the two halves that are tested are the test of number 3
+halves : (c : tie.After-good-lists) → goodState (c .before .before .before .before .before .args .cursor .state) ≡ both (c .before .good-values .result) (c .good-lists .result)
+halves c = rw (c .before .good-values .ensures, c .good-lists .ensures) (values-and-lists _)
 
 returns-2 : tie.Need-returns-2
 unfolding layoutAt
 returns-2 c =
-    let a = c .before .before .before .before .before .before .args in
-    let k : unfit (a .cursor) ≡ true = rw (← c .before .before .good2 .ensures) (c .if2 .taken) in
-    (rw (step-unfit (a .order) (a .s .now) (a .cursor) (c .before .before .before .before .if1 .left) k), tt)
+    let a = c .before .before .before .before .before .before .before .args in
+    let k : unfit (a .cursor) ≡ true = rw (halves (c .before .before)) (c .if2 .taken) in
+    (rw (step-unfit (a .order) (a .s .now) (a .cursor) (c .before .before .before .before .before .if1 .left) k), tt)
 
 -- past the test of number 3, it is not due
-fit : (c : tie.Else2) → unfit (c .before .before .before .before .before .before .args .cursor) ≡ false
-fit c = rw (← c .before .before .good2 .ensures) (c .if2 .left)
+fit : (c : tie.Else2) → unfit (c .before .before .before .before .before .before .before .args .cursor) ≡ false
+fit c = rw (halves (c .before .before)) (c .if2 .left)
 
 returns-3 : tie.Need-returns-3
 unfolding layoutAt
 returns-3 c =
-    let a = c .before .before .before .before .before .before .before .args in
+    let a = c .before .before .before .before .before .before .before .before .args in
     (rw (step-end (a .order) (a .s .now) (a .cursor) (c .if3 .taken) (fit (c .before))), tt)
 
 -- what was looked at, and the step that it makes
 told : (c : tie.After-known-told) →
-    let a = c .before .before .before .before .before .before .before .before .before .before .before .args in
+    let a = c .before .before .before .before .before .before .before .before .before .before .before .before .args in
     shows (a .order) (drop (a .cursor .place) (a .s .now)) ≡ Complete (c .before .code .given .0 .0) (c .before .code .given .0 .1 .0)
 told c = sym (c .before .before .before .look .ensures) ∙ c .before .code .given .1
 
 ahead : (c : tie.After-look) →
-    let a = c .before .before .before .before .before .before .before .before .args in
+    let a = c .before .before .before .before .before .before .before .before .before .args in
     let l = drop (a .cursor .place) (a .s .now) in
     stepOf (a .order) (a .s .now) (a .cursor) ≡ stepBy (a .order) l (a .cursor) (c .look .result)
 ahead c =
-    let a = c .before .before .before .before .before .before .before .before .args in
+    let a = c .before .before .before .before .before .before .before .before .before .args in
     step-ahead (a .order) (a .s .now) (a .cursor) (omega arith) (fit (c .before .before)) ∙ rw (← c .look .ensures)
 
 look-requires : tie.Need-look-requires
@@ -65,7 +75,7 @@ add-from c = search needs
 
 add-to : tie.Need-add-to
 add-to c =
-    let a = c .before .before .before .before .before .before .before .before .before .before .before .args in
+    let a = c .before .before .before .before .before .before .before .before .before .before .before .before .args in
     record { fits = omega (arith, chunk-ends (a .order) (a .s .now) (a .cursor .place) (c .before .code .given .0 .0) (c .before .code .given .0 .1 .0) (told c)) }
 
 sub-in-chunk : tie.Need-sub-in-chunk
@@ -76,7 +86,7 @@ part-in-chunk-start c = search needs
 
 part-in-chunk-end : tie.Need-part-in-chunk-end
 part-in-chunk-end c =
-    let a = c .before .before .before .before .before .before .before .before .before .before .before .args in
+    let a = c .before .before .before .before .before .before .before .before .before .before .before .before .args in
     chunk-ends (a .order) (a .s .now) (a .cursor .place) (c .before .code .given .0 .0) (c .before .code .given .0 .1 .0) (told c)
 
 in-chunk-requires : tie.Need-in-chunk-requires
@@ -91,7 +101,7 @@ enum-told c = search needs
 returns-4 : tie.Need-returns-4
 returns-4 c =
     let k = c .before .before .before in
-    let a = k .before .before .before .before .before .before .before .before .before .before .before .args in
+    let a = k .before .before .before .before .before .before .before .before .before .before .before .before .args in
     let code = k .before .code .given .0 .0 in
     let size = k .before .code .given .0 .1 .0 in
     let t : stepOf (a .order) (a .s .now) (a .cursor) ≡ stepBy (a .order) (drop (a .cursor .place) (a .s .now)) (a .cursor) (Complete code size) =
@@ -108,7 +118,7 @@ returns-6 : tie.Need-returns-6
 unfolding layoutAt
 returns-6 c =
     let h = c .before in
-    let a = h .before .before .before .before .before .before .before .before .args in
+    let a = h .before .before .before .before .before .before .before .before .before .args in
     (rw (ahead h, step-skips (a .order) (drop (a .cursor .place) (a .s .now)) (a .cursor) (h .look .result) (pass-told (h .look .result) (c .match .keys3))), tt)
 
 pub plan-spec : {M : Type 1} → statement M
@@ -116,7 +126,8 @@ plan-spec =
     tie.close
     (tie.spec
     returns
-    good-requires
+    good-values-requires
+    good-lists-requires
     returns-2
     returns-3
     look-requires

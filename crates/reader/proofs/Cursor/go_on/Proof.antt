@@ -3,9 +3,12 @@ use mathlib.Core.Bool.{true, false}
 use mathlib.Core.Path.{_≡_, sym, _∙_}
 use native.Mathlib.Omega.{arith}
 use lib.ListN.{drop, length-drop}
+use Rattle.num.specs.Choice.{both}
 use Rattle.frame.specs.Place.{shows}
 use Rattle.frame.specs.declared.At.the-variants.{Complete}
 use Rattle.frame.proofs.Laws.{pass-told}
+use Rattle.state.specs.Good.{goodState}
+use Rattle.state.proofs.Laws.{values-and-lists}
 use Rattle.reader.specs.Step.{stepBy, stepOf}
 use Rattle.reader.proofs.Laws.{unfit, step-past, step-unfit, step-end, step-ahead, step-skips, still-took, chunk-ends, chunk-body, chunk-size}
 use borrow.Author.Needs.{needs}
@@ -20,42 +23,49 @@ returns c =
     let a = c .before .before .before .args in
     rw (step-past (a .order) (a .s .now) (a .self) (c .before .if1 .taken)) (still-took (c .still .ensures))
 
-good-requires : tie.Need-good-requires
-good-requires c κs = search needs
+good-values-requires : tie.Need-good-values-requires
+good-values-requires c κs = search needs
+
+good-lists-requires : tie.Need-good-lists-requires
+good-lists-requires c κs = search needs
+
+-- the two halves that are tested are the test of number 3
+halves : (c : tie.After-good-lists) → goodState (c .before .before .before .before .before .args .self .state) ≡ both (c .before .good-values .result) (c .good-lists .result)
+halves c = rw (c .before .good-values .ensures, c .good-lists .ensures) (values-and-lists _)
 
 still-requires-2 : tie.Need-still-requires-2
 still-requires-2 c κs = search needs
 
 returns-2 : tie.Need-returns-2
 returns-2 c =
-    let a = c .before .before .before .before .before .before .before .args in
-    let k : unfit (a .self) ≡ true = rw (← c .before .before .before .good2 .ensures) (c .before .if2 .taken) in
-    rw (step-unfit (a .order) (a .s .now) (a .self) (c .before .before .before .before .before .if1 .left) k) (still-took (c .still2 .ensures))
+    let a = c .before .before .before .before .before .before .before .before .args in
+    let k : unfit (a .self) ≡ true = rw (halves (c .before .before .before)) (c .before .if2 .taken) in
+    rw (step-unfit (a .order) (a .s .now) (a .self) (c .before .before .before .before .before .before .if1 .left) k) (still-took (c .still2 .ensures))
 
 -- past the test of number 3, it is not due
-fit : (c : tie.Else2) → unfit (c .before .before .before .before .before .before .args .self) ≡ false
-fit c = rw (← c .before .before .good2 .ensures) (c .if2 .left)
+fit : (c : tie.Else2) → unfit (c .before .before .before .before .before .before .before .args .self) ≡ false
+fit c = rw (halves (c .before .before)) (c .if2 .left)
 
 still-requires-3 : tie.Need-still-requires-3
 still-requires-3 c κs = search needs
 
 returns-3 : tie.Need-returns-3
 returns-3 c =
-    let a = c .before .before .before .before .before .before .before .before .args in
+    let a = c .before .before .before .before .before .before .before .before .before .args in
     rw (step-end (a .order) (a .s .now) (a .self) (c .before .if3 .taken) (fit (c .before .before))) (still-took (c .still3 .ensures))
 
 -- what was looked at, and the step that it makes
 told : (c : tie.After-known-told) →
-    let a = c .before .before .before .before .before .before .before .before .before .before .before .args in
+    let a = c .before .before .before .before .before .before .before .before .before .before .before .before .args in
     shows (a .order) (drop (a .self .place) (a .s .now)) ≡ Complete (c .before .code .given .0 .0) (c .before .code .given .0 .1 .0)
 told c = sym (c .before .before .before .look .ensures) ∙ c .before .code .given .1
 
 ahead : (c : tie.After-look) →
-    let a = c .before .before .before .before .before .before .before .before .args in
+    let a = c .before .before .before .before .before .before .before .before .before .args in
     let l = drop (a .self .place) (a .s .now) in
     stepOf (a .order) (a .s .now) (a .self) ≡ stepBy (a .order) l (a .self) (c .look .result)
 ahead c =
-    let a = c .before .before .before .before .before .before .before .before .args in
+    let a = c .before .before .before .before .before .before .before .before .before .args in
     step-ahead (a .order) (a .s .now) (a .self) (omega arith) (fit (c .before .before)) ∙ rw (← c .look .ensures)
 
 look-requires : tie.Need-look-requires
@@ -69,7 +79,7 @@ add-from c = search needs
 
 add-to : tie.Need-add-to
 add-to c =
-    let a = c .before .before .before .before .before .before .before .before .before .before .before .args in
+    let a = c .before .before .before .before .before .before .before .before .before .before .before .before .args in
     record { fits = omega (arith, chunk-ends (a .order) (a .s .now) (a .self .place) (c .before .code .given .0 .0) (c .before .code .given .0 .1 .0) (told c)) }
 
 sub-chunk : tie.Need-sub-chunk
@@ -80,12 +90,12 @@ part-chunk-start c = search needs
 
 part-chunk-end : tie.Need-part-chunk-end
 part-chunk-end c =
-    let a = c .before .before .before .before .before .before .before .before .before .before .before .args in
+    let a = c .before .before .before .before .before .before .before .before .before .before .before .before .args in
     chunk-ends (a .order) (a .s .now) (a .self .place) (c .before .code .given .0 .0) (c .before .code .given .0 .1 .0) (told c)
 
 chunk-requires : tie.Need-chunk-requires
 chunk-requires c κs =
-    let a = c .before .before .before .before .before .before .before .before .before .before .before .before .args in
+    let a = c .before .before .before .before .before .before .before .before .before .before .before .before .before .args in
     let k = told (c .before) in
     let code = c .before .before .code .given .0 .0 in
     let size = c .before .before .code .given .0 .1 .0 in
@@ -107,7 +117,7 @@ skip-requires c κs = search needs
 
 returns-4 : tie.Need-returns-4
 returns-4 c =
-    let a = c .before .before .before .before .before .before .before .before .before .before .before .before .before .args in
+    let a = c .before .before .before .before .before .before .before .before .before .before .before .before .before .before .args in
     let k = told (c .before .before) in
     let code = c .before .before .before .code .given .0 .0 in
     let size = c .before .before .before .code .given .0 .1 .0 in
@@ -118,13 +128,13 @@ returns-4 c =
 returns-5 : tie.Need-returns-5
 returns-5 c =
     let h = c .before .before .before in
-    let a = h .before .before .before .before .before .before .before .before .args in
+    let a = h .before .before .before .before .before .before .before .before .before .args in
     rw (ahead h, c .before .enum-told .given .1, length-drop (a .self .place) (a .s .now)) (c .cut .ensures)
 
 returns-6 : tie.Need-returns-6
 returns-6 c =
     let h = c .before .before in
-    let a = h .before .before .before .before .before .before .before .before .args in
+    let a = h .before .before .before .before .before .before .before .before .before .args in
     rw (ahead h, step-skips (a .order) (drop (a .self .place) (a .s .now)) (a .self) (h .look .result) (pass-told (h .look .result) (c .before .match .keys3))) (c .skip .ensures)
 
 pub go-on-spec : {M : Type 1} → statement M
@@ -133,7 +143,8 @@ go-on-spec =
     (tie.spec
     still-requires
     returns
-    good-requires
+    good-values-requires
+    good-lists-requires
     still-requires-2
     returns-2
     still-requires-3

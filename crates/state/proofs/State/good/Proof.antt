@@ -1,85 +1,18 @@
--- Each call promises the test of one part, and the state's test is those tests together.
+-- The two calls promise the two halves of the test, which are the test together.
+use mathlib.Core.Path.{sym}
 use borrow.Author.Needs.{needs}
-use Rattle.state.specs.Good.{goodState}
+use Rattle.state.proofs.Laws.{values-and-lists}
 use Rattle.state.proofs.State.good.Statement.{statement}
 use Rattle.state.proofs.State.good.Tie as tie
 
-places-requires : tie.Need-places-requires
-places-requires c κs = search needs
+good-values-requires : tie.Need-good-values-requires
+good-values-requires c κs = search needs
 
-good-packing-requires : tie.Need-good-packing-requires
-good-packing-requires c κs = search needs
-
-good-at-least-requires : tie.Need-good-at-least-requires
-good-at-least-requires c κs = search needs
-
-good-band-requires : tie.Need-good-band-requires
-good-band-requires c κs = search needs
-
-good-at-least-requires-2 : tie.Need-good-at-least-requires-2
-good-at-least-requires-2 c κs = search needs
-
-good-centre-requires : tie.Need-good-centre-requires
-good-centre-requires c κs = search needs
-
-good-level-requires : tie.Need-good-level-requires
-good-level-requires c κs = search needs
-
-good-level-requires-2 : tie.Need-good-level-requires-2
-good-level-requires-2 c κs = search needs
-
-good-scale-requires : tie.Need-good-scale-requires
-good-scale-requires c κs = search needs
-
-good-head-requires : tie.Need-good-head-requires
-good-head-requires c κs = search needs
-
-good-list-requires : tie.Need-good-list-requires
-good-list-requires c κs = search needs
-
-good-list-requires-2 : tie.Need-good-list-requires-2
-good-list-requires-2 c κs = search needs
-
-good-list-requires-3 : tie.Need-good-list-requires-3
-good-list-requires-3 c κs = search needs
+good-lists-requires : tie.Need-good-lists-requires
+good-lists-requires c κs = search needs
 
 returns : tie.Need-returns
-unfolding goodState
-returns c =
-    let p = c .before .before .before .before .before .before .before .before .before .before .before .before .places .ensures in
-    rw (
-      c .good-list3 .ensures,
-      c .before .good-list2 .ensures,
-      c .before .before .good-list .ensures,
-      c .before .before .before .good-head .ensures,
-      c .before .before .before .before .good-scale .ensures,
-      c .before .before .before .before .before .good-level2 .ensures,
-      c .before .before .before .before .before .before .good-level .ensures,
-      c .before .before .before .before .before .before .before .good-centre .ensures,
-      c .before .before .before .before .before .before .before .before .good-at-least2 .ensures,
-      c .before .before .before .before .before .before .before .before .before .good-band .ensures,
-      c .before .before .before .before .before .before .before .before .before .before .good-at-least .ensures,
-      c .before .before .before .before .before .before .before .before .before .before .before .good-packing .ensures,
-      p .0,
-      p .1,
-      p .2,
-    )
+returns c = rw (c .good-lists .ensures, c .before .good-values .ensures) (sym (values-and-lists _))
 
 pub good-spec : {M : Type 1} → statement M
-good-spec =
-    tie.close
-    (tie.spec
-    places-requires
-    good-packing-requires
-    good-at-least-requires
-    good-band-requires
-    good-at-least-requires-2
-    good-centre-requires
-    good-level-requires
-    good-level-requires-2
-    good-scale-requires
-    good-head-requires
-    good-list-requires
-    good-list-requires-2
-    good-list-requires-3
-    returns)
+good-spec = tie.close (tie.spec good-values-requires good-lists-requires returns)
