@@ -142,8 +142,8 @@ fn ready(order: Order, s: &[u8]) -> Ready<'_> {
         .expect("the stream has a ready chunk")
 }
 
-/// One channel of a stream of a few metas and one large chunk. The library's call steps over the metas first; that time is
-/// measured beside it and taken off.
+/// One channel of a stream of a few metas and one large chunk. Both sides read the stream up to the chunk; the time that each
+/// takes for the metas is measured beside it and taken off.
 fn copying<T: Number>(
     rows: &mut Vec<Row>,
     work: String,
@@ -169,18 +169,24 @@ fn copying<T: Number>(
     };
     let mut contestants: Vec<Run> = vec![
         Box::new(|| T::copy(order, s, steps, channel, &mut ours)),
-        Box::new(|| T::copy_ready(&ready, channel, &mut rust)),
+        Box::new(|| T::copy_ready(&self::ready(order, s), channel, &mut rust)),
         Box::new(limit),
     ];
-    let mut times = same(&work, &mut contestants).into_iter();
-    let stepping = middle(&race(&mut [Box::new(|| ours::step(order, metas))])[0]);
-    let ours = times.next().expect("first");
+    let times = same(&work, &mut contestants);
+    let before = race(&mut [
+        Box::new(|| ours::step(order, metas)),
+        Box::new(|| sound(order, metas)),
+    ]);
+    let copied = |k: usize| -> Times {
+        let metas = middle(&before[k]).middle;
+        times[k].iter().map(|t| t - metas).collect()
+    };
     rows.push(Row {
         work,
         bytes,
-        ours: ours.iter().map(|t| t - stepping.middle).collect(),
-        rust: times.next().expect("second"),
-        limit: times.next(),
+        ours: copied(0),
+        rust: copied(1),
+        limit: Some(times[2].clone()),
         plain: None,
     });
 }
