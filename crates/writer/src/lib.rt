@@ -26,16 +26,27 @@ pub enum Written {
     NoRoom,
 }
 
-// All of src over all of out, which is as long. A compiler makes one copy of it.
-fn fill(src: &[u8], out: &mut [u8])
-    requires { ⌜ length (now src) ≡ length (now out) ⌝ }
+// All of src over all of out, which is as long, the first few bytes by themselves. A compiler makes vectors of the loop.
+fn fill(src: &[u8], few: usize, out: &mut [u8])
+    requires { ⌜ (length (now src) ≡ length (now out)) × (few ≤ length (now src)) ⌝ }
     ensures { λ _. ⌜ now (out .exit) ≡ now (src .entry) ⌝ }
 {
     let mut j = 0;
+    while j < few {
+        out[j] = src[j];
+        j += 1;
+    }
     while j < src.len() {
         out[j] = src[j];
         j += 1;
     }
+}
+
+// How many of so many bytes come before the first that lies at a multiple of 16, from a place on. A long run of bytes is copied faster from there on: out is taken to lie at such an address itself. For a short one it does not pay.
+fn lead(at: usize, count: usize) -> usize
+    ensures { λ r. ⌜ r ≤ count ⌝ }
+{
+    if count < 256 { 0 } else { (16 - at % 16) % 16 }
 }
 
 // All of src into out, from the place `at` on.
@@ -44,7 +55,7 @@ fn put(src: &[u8], out: &mut [u8], at: usize)
     ensures { λ _. ⌜ now (out .exit) ≡ splice (now (out .entry)) at (now (src .entry)) ⌝ }
 {
     let end = at + src.len();
-    fill(src, &mut out[at..end])
+    fill(src, lead(at, src.len()), &mut out[at..end])
 }
 
 // The four bytes of a number.

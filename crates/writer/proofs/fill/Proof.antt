@@ -1,60 +1,84 @@
--- After j turns the first j bytes are those of src, and all of them at the end.
-use Prim.Native.Nat.{ℕ, suc, _+_, _-_, _≤_}
-use mathlib.Core.Path.{_≡_, ap, _∙_, subst}
-use mathlib.Core.List.{append-nil}
+-- After j turns the first j bytes are those of src, in either loop: the second goes on where the first ends.
+use Prim.Native.Nat.{ℕ, _+_, _-_, _≤_, _<_}
+use mathlib.Core.Path.{_≡_, refl, sym, ap, _∙_}
+use mathlib.Core.List.{List, _∷_, [], _++_}
 use native.Mathlib.Numerals.{add-one}
 use native.Mathlib.Omega.{arith}
-use lib.ListN.{length, getD, set}
-use lib.Seq.{paste, paste-zero, paste-suc, length-paste, take-length, drop-length}
+use lib.ListN.{length, getD, set, take, length-set}
+use lib.Seq.{take-suc, take-suc-set, take-all}
 use Rattle.writer.proofs.fill.Statement.{statement}
 use Rattle.writer.proofs.fill.Tie as tie
 
+-- out is as long as src and has its first j bytes
+abbrev Same : List ℕ → List ℕ → ℕ → Type 0
+Same src out j = (length out ≡ length src) × (take j out ≡ take j src)
+
+-- a turn of either loop
+turn : (src out : List ℕ) (j : ℕ) → j < length src → Same src out j → Same src (set out j (getD src j 0)) (j + 1)
+turn src out j h e = (
+  length-set out j (getD src j 0) ∙ e .0,
+  rw add-one (take-suc-set out j (getD src j 0) (omega arith) ∙ ap (λ (l : List ℕ). l ++ getD src j 0 ∷ []) (e .1) ∙ sym (take-suc src j 0 h)),
+)
+
 abbrev Inv-loop : tie.InvT-loop
-Inv-loop src out₀ j₀ out j = (out ≡ paste out₀ 0 src j) × (j ≤ length src)
+Inv-loop src few out₀ j₀ out j = (j ≤ few) × Same src out j
 
 abbrev μ-loop : tie.MeasureT-loop
-μ-loop src out₀ j₀ out j = length src - j
+μ-loop src few out₀ j₀ out j = few - j
 
--- out is as long as it was
-long : (c : tie.At-loop Inv-loop μ-loop) → length (c .loop .out) ≡ length (c .before .args .out .now)
-long c = ap length (c .loop .inv .0) ∙ length-paste (c .before .args .out .now) 0 (c .before .args .src .now) (c .loop .j) (omega arith) (omega arith)
+abbrev Inv-loop2 : tie.InvT-loop2
+Inv-loop2 src few out₀ j₀ out j = (j ≤ length src) × Same src out j
 
-loop-holds : tie.Need-loop-holds Inv-loop μ-loop
-loop-holds c = (paste-zero (c .args .out .now) 0 (c .args .src .now), omega arith)
+abbrev μ-loop2 : tie.MeasureT-loop2
+μ-loop2 src few out₀ j₀ out j = length src - j
 
-shared-slice-read-out : tie.Need-shared-slice-read-out Inv-loop μ-loop
+loop-holds : tie.Need-loop-holds Inv-loop μ-loop Inv-loop2 μ-loop2
+loop-holds c = (omega arith, (omega arith, refl))
+
+shared-slice-read-out : tie.Need-shared-slice-read-out Inv-loop μ-loop Inv-loop2 μ-loop2
 shared-slice-read-out c = omega arith
 
-slice-write-out : tie.Need-slice-write-out Inv-loop μ-loop
-slice-write-out c = omega (arith, long (c .before .before))
+slice-write-out : tie.Need-slice-write-out Inv-loop μ-loop Inv-loop2 μ-loop2
+slice-write-out c = omega arith
 
-add-j : tie.Need-add-j Inv-loop μ-loop
+add-j : tie.Need-add-j Inv-loop μ-loop Inv-loop2 μ-loop2
 add-j c = omega arith
 
-loop-less : tie.Need-loop-less Inv-loop μ-loop
+loop-less : tie.Need-loop-less Inv-loop μ-loop Inv-loop2 μ-loop2
 loop-less c = omega arith
 
-loop-again : tie.Need-loop-again Inv-loop μ-loop
+loop-again : tie.Need-loop-again Inv-loop μ-loop Inv-loop2 μ-loop2
 loop-again c =
     let l = c .before .before in
-    let d = l .before .args .out .now in
-    let s = l .before .args .src .now in
-    let j = l .loop .j in
-    let z : 0 + j ≡ j = omega arith in (
-      rw (l .loop .inv .0, add-one) (subst (λ (k : ℕ). set (paste d 0 s j) k (getD s j 0) ≡ paste d 0 s (suc j)) z (paste-suc d 0 s j 0 (omega arith) (c .before .loop-test .taken))),
-      omega arith,
-    )
+    (omega arith, turn (l .before .args .src .now) (l .loop .out) (l .loop .j) (omega arith) (l .loop .inv .1))
 
-same-length : tie.Need-same-length Inv-loop μ-loop
-same-length c = long (c .before)
+loop2-holds : tie.Need-loop2-holds Inv-loop μ-loop Inv-loop2 μ-loop2
+loop2-holds c = (omega arith, c .before .loop .inv .1)
 
-returns : tie.Need-returns Inv-loop μ-loop
+shared-slice-read-out-2 : tie.Need-shared-slice-read-out-2 Inv-loop μ-loop Inv-loop2 μ-loop2
+shared-slice-read-out-2 c = omega arith
+
+slice-write-out-2 : tie.Need-slice-write-out-2 Inv-loop μ-loop Inv-loop2 μ-loop2
+slice-write-out-2 c = omega arith
+
+add-j-2 : tie.Need-add-j-2 Inv-loop μ-loop Inv-loop2 μ-loop2
+add-j-2 c = omega arith
+
+loop2-less : tie.Need-loop2-less Inv-loop μ-loop Inv-loop2 μ-loop2
+loop2-less c = omega arith
+
+loop2-again : tie.Need-loop2-again Inv-loop μ-loop Inv-loop2 μ-loop2
+loop2-again c =
+    let l = c .before .before in
+    (omega arith, turn (l .before .before .before .args .src .now) (l .loop2 .out) (l .loop2 .j) (omega arith) (l .loop2 .inv .1))
+
+same-length : tie.Need-same-length Inv-loop μ-loop Inv-loop2 μ-loop2
+same-length c = omega arith
+
+returns : tie.Need-returns Inv-loop μ-loop Inv-loop2 μ-loop2
 returns c =
-    let s = c .before .before .args .src .now in
-    let d = c .before .before .args .out .now in
-    let e : c .before .loop .j ≡ length s = omega arith in
-    let n : 0 + length s ≡ length d = omega arith in
-    rw (e, take-length, n, drop-length, append-nil) at (c .before .loop .inv .0)
+    let l = c .before in
+    sym (take-all (l .loop2 .j) (l .loop2 .out) (omega arith)) ∙ l .loop2 .inv .1 .1 ∙ take-all (l .loop2 .j) (l .before .before .before .args .src .now) (omega arith)
 
 pub fill-spec : {M : Type 1} → statement M
 fill-spec =
@@ -62,11 +86,19 @@ fill-spec =
     (tie.spec
     Inv-loop
     μ-loop
+    Inv-loop2
+    μ-loop2
     loop-holds
     shared-slice-read-out
     slice-write-out
     add-j
     loop-less
     loop-again
+    loop2-holds
+    shared-slice-read-out-2
+    slice-write-out-2
+    add-j-2
+    loop2-less
+    loop2-again
     same-length
     returns)

@@ -10,6 +10,9 @@ use Rattle.writer.proofs.put.Tie as tie
 add-end : tie.Need-add-end
 add-end c = search needs
 
+lead-requires : tie.Need-lead-requires
+lead-requires c κs = search needs
+
 sub-fill : tie.Need-sub-fill
 sub-fill c = search needs
 
@@ -27,10 +30,10 @@ same-length c = search needs
 
 returns : tie.Need-returns
 returns c =
-    let a = c .before .before .before .before .before .before .args in
+    let a = c .before .before .before .before .before .before .before .args in
     rw (c .before .before .fill .ensures) (lent-back (a .out .now) (a .src .now) (a .at) (a .at + length (a .src .now)) (omega arith) (omega arith))
 
 pub put-spec : {M : Type 1} → statement M
 put-spec =
     tie.close
-    (tie.spec add-end sub-fill part-fill-start part-fill-end fill-requires same-length returns)
+    (tie.spec add-end lead-requires sub-fill part-fill-start part-fill-end fill-requires same-length returns)
