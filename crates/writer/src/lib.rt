@@ -42,7 +42,8 @@ fn fill(src: &[u8], few: usize, out: &mut [u8])
     }
 }
 
-// How many of so many bytes come before the first that lies at a multiple of 16, from a place on. A long run of bytes is copied faster from there on: out is taken to lie at such an address itself. For a short one it does not pay.
+// How many of so many bytes come before the first that lies at a multiple of 16, from a place on. A long run of bytes is
+// copied faster from there: out is taken to lie at such an address itself. For a short run it does not pay.
 fn lead(at: usize, count: usize) -> usize
     ensures { λ r. ⌜ r ≤ count ⌝ }
 {
