@@ -38,16 +38,19 @@ pub fn ready_data(order: Order, kind: Kind, body: &[u8], was: State) -> Asked
     ensures { λ r. ⌜ askedSaid r ≡ readyData (effect order kind (now (body .entry)) was .says) ⌝ }
 {
     let packing = was.packing;
+    let rate = was.rate;
     let scale = was.float_scale;
+    let group = was.group;
     let packed = packing.present;
+    let rated = rate.present;
     let scaled = scale.present;
     match kind {
-        Kind::SSNC => answer(single(data::ssnc(order, body), packed, true, was)),
-        Kind::SSNR => answer(single(data::ssnr(order, body), true, true, was)),
-        Kind::SFNC => answer(single(data::sfnc(order, body), packed, scaled, was)),
-        Kind::SFNR => answer(single(data::sfnr(order, body), true, scaled, was)),
-        Kind::GSNC => answer(grouped(data::gsnc(order, body), true, was)),
-        Kind::GFNC => answer(grouped(data::gfnc(order, body), scaled, was)),
+        Kind::SSNC => answer(single(data::ssnc(order, body), packed, rated, true)),
+        Kind::SSNR => answer(single(data::ssnr(order, body), true, rated, true)),
+        Kind::SFNC => answer(single(data::sfnc(order, body), packed, rated, scaled)),
+        Kind::SFNR => answer(single(data::sfnr(order, body), true, rated, scaled)),
+        Kind::GSNC => answer(grouped(data::gsnc(order, body), group, rated, true)),
+        Kind::GFNC => answer(grouped(data::gfnc(order, body), group, rated, scaled)),
         Kind::SIQP => Asked::NotReady,
         Kind::SR => Asked::NotReady,
         Kind::BW => Asked::NotReady,

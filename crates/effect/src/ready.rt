@@ -134,24 +134,21 @@ pub(crate) fn timed(judged: Judged, was: State) -> Taken
     }
 }
 
-// A data chunk of one channel: whether it has the packing and the float full scale, where it needs them.
-pub(crate) fn single(read: DataRead, packed: bool, scaled: bool, was: State) -> Judged
-    ensures { λ r. ⌜ (verdictSaid (r .verdict) ≡ dataSays (dataSaid read) packed (was .rate .present) scaled) × (r .group ≡ false) ⌝ }
+// A data chunk of one channel: whether it has the packing, the sample rate and the float full scale, where it needs them.
+pub(crate) fn single(read: DataRead, packed: bool, rated: bool, scaled: bool) -> Judged
+    ensures { λ r. ⌜ (verdictSaid (r .verdict) ≡ dataSays (dataSaid read) packed rated scaled) × (r .group ≡ false) ⌝ }
 {
-    let rate = was.rate;
     Judged {
-        verdict: verdict_of(read, packed, rate.present, scaled),
+        verdict: verdict_of(read, packed, rated, scaled),
         group: false,
     }
 }
 
-// A data chunk of a group: whether it has the float full scale, where it needs it.
-pub(crate) fn grouped(read: DataRead, scaled: bool, was: State) -> Judged
-    ensures { λ r. ⌜ (verdictSaid (r .verdict) ≡ covering (was .group) (dataSays (dataSaid read) (ltb 0 (was .group .n)) (was .rate .present) scaled)) × (r .group ≡ true) ⌝ }
+// A data chunk of a group: whether it has the sample rate, and the float full scale where it needs it.
+pub(crate) fn grouped(read: DataRead, group: GroupPacking, rated: bool, scaled: bool) -> Judged
+    ensures { λ r. ⌜ (verdictSaid (r .verdict) ≡ covering group (dataSays (dataSaid read) (ltb 0 (group .n)) rated scaled)) × (r .group ≡ true) ⌝ }
 {
-    let rate = was.rate;
-    let group = was.group;
-    let verdict = verdict_of(read, 0 < group.n, rate.present, scaled);
+    let verdict = verdict_of(read, 0 < group.n, rated, scaled);
     Judged {
         verdict: covering(group, verdict),
         group: true,

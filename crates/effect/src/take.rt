@@ -167,16 +167,19 @@ pub fn take(order: Order, kind: Kind, body: &[u8], was: State) -> Taken
     ensures { λ r. ⌜ Took r (effect order kind (now (body .entry)) was) ⌝ }
 {
     let packing = was.packing;
+    let rate = was.rate;
     let scale = was.float_scale;
+    let group = was.group;
     let packed = packing.present;
+    let rated = rate.present;
     let scaled = scale.present;
     let judged = match kind {
-        Kind::SSNC => single(data::ssnc(order, body), packed, true, was),
-        Kind::SSNR => single(data::ssnr(order, body), true, true, was),
-        Kind::SFNC => single(data::sfnc(order, body), packed, scaled, was),
-        Kind::SFNR => single(data::sfnr(order, body), true, scaled, was),
-        Kind::GSNC => grouped(data::gsnc(order, body), true, was),
-        Kind::GFNC => grouped(data::gfnc(order, body), scaled, was),
+        Kind::SSNC => single(data::ssnc(order, body), packed, rated, true),
+        Kind::SSNR => single(data::ssnr(order, body), true, rated, true),
+        Kind::SFNC => single(data::sfnc(order, body), packed, rated, scaled),
+        Kind::SFNR => single(data::sfnr(order, body), true, rated, scaled),
+        Kind::GSNC => grouped(data::gsnc(order, body), group, rated, true),
+        Kind::GFNC => grouped(data::gfnc(order, body), group, rated, scaled),
         Kind::SIQP => return siqp(order, body, was),
         Kind::SR => return sr(order, body, was),
         Kind::BW => return bw(order, body, was),

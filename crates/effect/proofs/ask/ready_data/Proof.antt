@@ -172,67 +172,67 @@ returns-6 c =
 
 returns-7 : tie.Need-returns-7
 unfolding effect
-returns-7 c = let a = c .before .before .before .before .before .args in rw (c .enum-told7 .given .1) (not-data (siqp (a .order) (a .body .now)))
+returns-7 c = let a = c .before .before .before .before .before .before .before .args in rw (c .enum-told7 .given .1) (not-data (siqp (a .order) (a .body .now)))
 
 returns-8 : tie.Need-returns-8
 unfolding effect
-returns-8 c = let a = c .before .before .before .before .before .args in rw (c .enum-told8 .given .1) (not-data (sr (a .order) (a .body .now)))
+returns-8 c = let a = c .before .before .before .before .before .before .before .args in rw (c .enum-told8 .given .1) (not-data (sr (a .order) (a .body .now)))
 
 returns-9 : tie.Need-returns-9
 unfolding effect
-returns-9 c = let a = c .before .before .before .before .before .args in rw (c .enum-told9 .given .1) (not-data (bw (a .order) (a .body .now)))
+returns-9 c = let a = c .before .before .before .before .before .before .before .args in rw (c .enum-told9 .given .1) (not-data (bw (a .order) (a .body .now)))
 
 returns-10 : tie.Need-returns-10
 unfolding effect
-returns-10 c = let a = c .before .before .before .before .before .args in rw (c .enum-told10 .given .1) (not-data (bw (a .order) (a .body .now)))
+returns-10 c = let a = c .before .before .before .before .before .before .before .args in rw (c .enum-told10 .given .1) (not-data (bw (a .order) (a .body .now)))
 
 returns-11 : tie.Need-returns-11
 unfolding effect
-returns-11 c = let a = c .before .before .before .before .before .args in rw (c .enum-told11 .given .1) (not-data (bwof (a .order) (a .body .now)))
+returns-11 c = let a = c .before .before .before .before .before .before .before .args in rw (c .enum-told11 .given .1) (not-data (bwof (a .order) (a .body .now)))
 
 returns-12 : tie.Need-returns-12
 unfolding effect
-returns-12 c = let a = c .before .before .before .before .before .args in rw (c .enum-told12 .given .1) (not-data (cf (a .order) (a .body .now)))
+returns-12 c = let a = c .before .before .before .before .before .before .before .args in rw (c .enum-told12 .given .1) (not-data (cf (a .order) (a .body .now)))
 
 returns-13 : tie.Need-returns-13
 unfolding effect
-returns-13 c = let a = c .before .before .before .before .before .args in rw (c .enum-told13 .given .1) (not-data (dbfs (a .order) (a .body .now)))
+returns-13 c = let a = c .before .before .before .before .before .before .before .args in rw (c .enum-told13 .given .1) (not-data (dbfs (a .order) (a .body .now)))
 
 returns-14 : tie.Need-returns-14
 unfolding effect
-returns-14 c = let a = c .before .before .before .before .before .args in rw (c .enum-told14 .given .1) (not-data (dbtg (a .order) (a .body .now)))
+returns-14 c = let a = c .before .before .before .before .before .before .before .args in rw (c .enum-told14 .given .1) (not-data (dbtg (a .order) (a .body .now)))
 
 returns-15 : tie.Need-returns-15
 unfolding effect
-returns-15 c = let a = c .before .before .before .before .before .args in rw (c .enum-told15 .given .1) (not-data (ffs (a .order) (a .body .now)))
+returns-15 c = let a = c .before .before .before .before .before .before .before .args in rw (c .enum-told15 .given .1) (not-data (ffs (a .order) (a .body .now)))
 
 returns-16 : tie.Need-returns-16
 unfolding effect
-returns-16 c = let a = c .before .before .before .before .before .args in rw (c .enum-told16 .given .1) (not-data (giqp (a .order) (a .body .now)))
+returns-16 c = let a = c .before .before .before .before .before .before .before .args in rw (c .enum-told16 .given .1) (not-data (giqp (a .order) (a .body .now)))
 
 returns-17 : tie.Need-returns-17
 unfolding effect
-returns-17 c = let a = c .before .before .before .before .before .args in rw (c .enum-told17 .given .1) (not-data (gcf (a .order) (a .body .now)))
+returns-17 c = let a = c .before .before .before .before .before .before .before .args in rw (c .enum-told17 .given .1) (not-data (gcf (a .order) (a .body .now)))
 
 returns-18 : tie.Need-returns-18
 unfolding effect
-returns-18 c = let a = c .before .before .before .before .before .args in rw (c .enum-told18 .given .1) (not-data (grg (a .order) (a .body .now)))
+returns-18 c = let a = c .before .before .before .before .before .before .before .args in rw (c .enum-told18 .given .1) (not-data (grg (a .order) (a .body .now)))
 
 returns-19 : tie.Need-returns-19
 unfolding effect
-returns-19 c = let a = c .before .before .before .before .before .args in rw (c .enum-told19 .given .1) (not-data (sofh (a .order) (a .body .now)))
+returns-19 c = let a = c .before .before .before .before .before .before .before .args in rw (c .enum-told19 .given .1) (not-data (sofh (a .order) (a .body .now)))
 
 returns-20 : tie.Need-returns-20
 unfolding effect
-returns-20 c = let a = c .before .before .before .before .before .args in rw (c .enum-told20 .given .1) (not-data (empty (a .body .now)))
+returns-20 c = let a = c .before .before .before .before .before .before .before .args in rw (c .enum-told20 .given .1) (not-data (empty (a .body .now)))
 
 returns-21 : tie.Need-returns-21
 unfolding effect
-returns-21 c = let a = c .before .before .before .before .before .args in rw (c .enum-told21 .given .1) (not-data (empty (a .body .now)))
+returns-21 c = let a = c .before .before .before .before .before .before .before .args in rw (c .enum-told21 .given .1) (not-data (empty (a .body .now)))
 
 returns-22 : tie.Need-returns-22
 unfolding effect
-returns-22 c = let a = c .before .before .before .before .before .args in rw (c .enum-told22 .given .1) (not-data (text (a .order) (a .body .now)))
+returns-22 c = let a = c .before .before .before .before .before .before .before .args in rw (c .enum-told22 .given .1) (not-data (text (a .order) (a .body .now)))
 
 returns-23 : tie.Need-returns-23
 unfolding effect
