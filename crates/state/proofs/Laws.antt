@@ -1,4 +1,5 @@
--- Laws of good states: the parts of one, one with a part put anew, absent values, and lists of values that are allowed.
+-- Laws of good states: the parts of one, the two halves of its test, one with a part put anew, absent values, and lists of
+-- values that are allowed.
 use Prim.Native.Nat.{ℕ, zero, suc, _<_, _≤_}
 use mathlib.Core.Path.{_≡_, refl, sym, _∙_}
 use mathlib.Core.Bool.{Bool, true, false, _&&_, and-assoc}
