@@ -262,6 +262,16 @@ module _ (n u : ℕ) (f : ℕ → ℕ) (hu : 0 < u) where
           (one-of (λ c. bit (eqb (f c) (k * u))) n (b .0) (b .1) (ap bit (eq-eqb _ _ (b .2)))
           (λ j hj q. bit-zero (eqb (f j) (k * u)) (λ t. q (s .one j (b .0) hj (b .1) (eqb-true _ _ t ∙ sym (b .2))))))
 
+  -- offsets that are the units in their order pass
+  pub in-order-test : each (λ c. eqb (f c) (c * u)) n ≡ true → each (unitAt n u f) n ≡ true
+  in-order-test h =
+      let at : (c : ℕ) → c < n → f c ≡ c * u = λ c hc. eqb-true _ _ (each-at (λ c. eqb (f c) (c * u)) n c h hc) in
+      units-test (record {
+        multiple = λ c hc. (c, hc, at c hc);
+        has = λ k hk. (k, hk, at k hk);
+        one = λ c c′ hc hc′ e. same-high u c 0 c′ 0 hu hu (omega (arith, at c hc, at c′ hc′));
+      })
+
 -- ---- the rule and the code's test agree
 
 -- what an allowed packing is

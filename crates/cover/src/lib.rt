@@ -1,10 +1,10 @@
 // Whether the samples of a group chunk cover its pairs, each pair once.
 ghost use mathlib.Core.Path.{_≡_};
-ghost use Prim.Native.Nat.{_%_, _≤_, _<_};
+ghost use Prim.Native.Nat.{_*_, _%_, _^_, _≤_, _<_};
 ghost use mathlib.Core.Bool.{true};
 ghost use lib.Dec.{eqb};
 ghost use lib.ListN.{getD};
-ghost use Rattle.num.specs.Choice.{pick};
+ghost use Rattle.num.specs.Choice.{pick, each};
 ghost use Rattle.cover.specs.Cover.{bit, total, packs, covers, groupCovers};
 
 // The number in the machine's own width.
@@ -50,12 +50,30 @@ fn allowed(n: usize, increment: usize) -> bool
     (1 <= n) & (n <= 16) & ((increment == 1) | (increment == n))
 }
 
+// Whether the n offsets are the units in their order, as they nearly always are.
+fn in_order(n: usize, unit: usize, offsets: [u32; 16]) -> bool
+    requires { ⌜ (n ≤ 16) × (n * unit < 2 ^ 64) ⌝ }
+    ensures { λ r. ⌜ r ≡ each (λ c. eqb (getD offsets c 0) (c * unit)) n ⌝ }
+{
+    let mut c = 0;
+    while c < n {
+        if wide(offsets[c]) != c * unit {
+            return false;
+        }
+        c += 1;
+    }
+    true
+}
+
 // The test where there are pairs and the channels share them evenly: the n offsets are the units 0 to n - 1, in some order.
 fn fills(pairs: usize, n: usize, increment: usize, offsets: [u32; 16]) -> bool
     requires { ⌜ (packs n increment ≡ true) × (pairs % n ≡ 0) × (0 < pairs) ⌝ }
     ensures { λ r. ⌜ r ≡ covers n increment (λ c. getD offsets c 0) pairs ⌝ }
 {
     let unit = unit_of(increment, pairs / n);
+    if in_order(n, unit, offsets) {
+        return true;
+    }
     let mut k = 0;
     while k < n {
         let offset = wide(offsets[k]);
