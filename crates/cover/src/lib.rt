@@ -50,7 +50,7 @@ fn allowed(n: usize, increment: usize) -> bool
     (1 <= n) & (n <= 16) & ((increment == 1) | (increment == n))
 }
 
-// Whether the n offsets are the units in their order, as they nearly always are.
+// Whether the n offsets are the units in their order: then there is nothing to count.
 fn in_order(n: usize, unit: usize, offsets: [u32; 16]) -> bool
     requires { ⌜ (n ≤ 16) × (n * unit < 2 ^ 64) ⌝ }
     ensures { λ r. ⌜ r ≡ each (λ c. eqb (getD offsets c 0) (c * unit)) n ⌝ }
