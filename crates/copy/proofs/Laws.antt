@@ -11,9 +11,9 @@ use lib.Dec.{leb, eqb}
 use lib.ListN.{length, getD, take, drop, set, length-append, length-drop}
 use lib.Seq.{drop-cons, drop-drop, set-at, append-snoc, take-at, drop-at, getD-set-same, getD-set-other}
 use Rattle.num.specs.Choice.{pick, each}
-use Rattle.num.specs.Number.{number, unsigned}
+use Rattle.num.specs.Number.{number, unsigned, bytesOf}
 use Rattle.num.specs.declared.Order.the-variants.{Big, Little}
-use Rattle.num.proofs.Laws.{elems, part-elems}
+use Rattle.num.proofs.Laws.{Bytes, cons-bytes, elems, part-elems, written-read}
 use Rattle.num.proofs.Tests.{both-left, both-right, both-false, each-all, each-at, each-stop}
 use Rattle.copy.specs.Samples.{bytesAt, patternAt, placeOf, iOf, qOf, pairsOf, realsOf, laid, inside, pairsFit, realsFit}
 
@@ -54,6 +54,13 @@ module _ (src : List ℕ) (place : ℕ) (h : (place + 1) * 4 ≤ length src) (sm
   big-word =
       let p = place * 4 in
       rw (whole, first, second) (halves (getD src (p + 3) 0) (getD src (p + 2) 0) (getD src (p + 1) 0) (getD src p 0) (small (p + 3)) (small (p + 2)) (small (p + 1)) (small p))
+
+-- the bytes of a number of two bytes are those that it was read from
+pub short-back : (src : List ℕ) (k : ℕ) → (k + 1) * 2 ≤ length src → Bytes src → bytesOf Little 2 (unsigned Little (bytesAt 2 src k)) ≡ bytesAt 2 src k
+short-back src k h small =
+    let b = getD src (k * 2 + (0 + 1)) 0 in
+    let one : Bytes (b ∷ []) = cons-bytes [] (small (k * 2 + (0 + 1))) (λ i. record { fits = omega arith }) in
+    rw (bytes-elems 2 src k h) (written-read Little (elems (k * 2) 0 2 src) (cons-bytes (b ∷ []) (small (k * 2 + 0)) one))
 
 module _ {A : Type 0} where
   -- one value more is laid
@@ -110,15 +117,6 @@ module _ {A : Type 0} where
     wanted-next w r m l = wanted-by m (eqb m k) refl l w (r m)
 
 module _ {A : Type 0} (value : ℕ → A) (iq : Bool) (first step : ℕ) where
-  -- one pair more behind a front of n pairs
-  pub behind-next : (front back : List A) (n j : ℕ) → length front ≡ 2 * n → 2 * j + 1 < length back →
-      set (set (front ++ laid (pairsOf value iq first step j) back) (2 * (n + j)) (value (iOf iq (placeOf first step j)))) (2 * (n + j) + 1) (value (qOf iq (placeOf first step j)))
-      ≡ front ++ laid (pairsOf value iq first step (j + 1)) back
-  behind-next front back n j e h =
-      let i : 2 * (n + j) ≡ length front + 2 * j = omega arith in
-      let q : length front + 2 * j + 1 ≡ length front + (2 * j + 1) = omega arith in
-      rw (i, q, set-behind front, set-behind front, pairs-next value iq first step back j h)
-
   -- pairs, and then those that follow them
   pairs-more : (j n : ℕ) → pairsOf value iq first step j ++ pairsOf value iq (placeOf first step j) step n ≡ pairsOf value iq first step (j + n)
   unfolding pairsOf
@@ -148,6 +146,10 @@ module _ {A : Type 0} (value : ℕ → A) where
   reals-next out j h = rw (add-one j) (laid-next (realsOf value j) (value j) out j (length-reals j) h)
 
   -- two numbers more
+  -- one value more behind a front of n values
+  pub reals-behind : (front back : List A) (n i : ℕ) → length front ≡ n → i < length back → set (front ++ laid (realsOf value i) back) (n + i) (value i) ≡ front ++ laid (realsOf value (i + 1)) back
+  reals-behind front back n i e h = rw (← e, set-behind front, reals-next back i h)
+
   pub reals-two : (out : List A) (j : ℕ) → 2 * j + 1 < length out →
       set (set (laid (realsOf value (2 * j)) out) (2 * j) (value (2 * j))) (2 * j + 1) (value (2 * j + 1)) ≡ laid (realsOf value (2 * (j + 1))) out
   reals-two out j h =

@@ -145,28 +145,28 @@ fn is_big(order: Order) -> bool
 }
 
 // Sixteen pairs of the big order with I first, laid as pairs j on, once all of them are read: so a compiler needs no test for
-// overlap and makes one block of vectors of it.
+// overlap. They are read as words of the little order, and the bytes of each half are then turned, by one shuffle for a vector.
 fn short_block(src: &[u8], place: usize, j: usize, out: &mut [i16])
     requires { ⌜ ((place + 16) * 4 ≤ length (now src)) × (2 * (j + 16) ≤ length (now out)) ⌝ }
     ensures { λ _. ⌜ now (out .exit) ≡ take (2 * j) (now (out .entry)) ++ laid (pairsOf (shortAt Order.Big (now (src .entry))) true place 1 16) (drop (2 * j) (now (out .entry))) ⌝ }
 {
-    let mut words = [0u32; 16];
+    let mut halves = [0u16; 32];
     let mut k = 0;
     while k < 16 {
-        words[k] = two_at(Order::Big, true, src, place + k);
+        let word = word_at(Order::Little, src, place + k);
+        let at = 2 * k;
+        halves[at] = (word % 65536) as u16;
+        halves[at + 1] = (word / 65536) as u16;
         k += 1;
     }
     let mut i = 0;
-    while i < 16 {
-        let at = 2 * (j + i);
-        out[at] = low(words[i]);
-        out[at + 1] = high(words[i]);
+    while i < 32 {
+        out[2 * j + i] = num::i16_of(Order::Big, num::u16_bytes(Order::Little, halves[i]));
         i += 1;
     }
 }
 
-// Pairs of the big order with I first that stand one after the other, the first few by themselves and then sixteen at a
-// time: two shuffles for each vector make a loop that the machine's issue width binds, so its turns are long.
+// Pairs of the big order with I first that stand one after the other, the first few by themselves and then sixteen at a time.
 fn short_blocks(src: &[u8], first: usize, few: usize, pairs: usize, out: &mut [i16])
     requires { ⌜ (pairsFit 2 (length (now src)) first 1 pairs (length (now out)) ≡ true) × (few ≤ pairs) ⌝ }
     ensures { λ _. ⌜ now (out .exit) ≡ laid (pairsOf (shortAt Order.Big (now (src .entry))) true first 1 pairs) (now (out .entry)) ⌝ }
