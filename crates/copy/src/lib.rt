@@ -1,6 +1,6 @@
 // The samples of one channel, copied out of the sample bytes of a data chunk into a lent slice.
 ghost use mathlib.Core.Path.{_≡_};
-ghost use mathlib.Core.Bool.{true};
+ghost use mathlib.Core.Bool.{true, false};
 ghost use Prim.Native.Nat.{_+_, _*_, _/_, _%_, _≤_, _<_};
 ghost use mathlib.Core.List.{_++_};
 ghost use lib.ListN.{length, take, drop, set};
@@ -206,6 +206,43 @@ fn short_line(
     short_run(order, iq, src, first, few, pairs, out);
 }
 
+// A pair of the big order with Q first, read as one number: its low half is I, which stands second, its high half Q. So one
+// shuffle turns all of the pair's bytes.
+fn long_at(src: &[u8], place: usize) -> u64
+    requires { ⌜ (place + 1) * 8 ≤ length (now src) ⌝ }
+    ensures { λ r. ⌜ (r % 4294967296 ≡ patternAt Order.Big (now (src .entry)) (iOf false place)) × (r / 4294967296 ≡ patternAt Order.Big (now (src .entry)) (qOf false place)) ⌝ }
+{
+    let p = place * 8;
+    num::u64_of(
+        Order::Big,
+        [
+            src[p],
+            src[p + 1],
+            src[p + 2],
+            src[p + 3],
+            src[p + 4],
+            src[p + 5],
+            src[p + 6],
+            src[p + 7],
+        ],
+    )
+}
+
+// Such pairs that stand one after the other.
+fn turned_run(src: &[u8], first: usize, pairs: usize, out: &mut [u32])
+    requires { ⌜ pairsFit 4 (length (now src)) first 1 pairs (length (now out)) ≡ true ⌝ }
+    ensures { λ _. ⌜ now (out .exit) ≡ laid (pairsOf (patternAt Order.Big (now (src .entry))) false first 1 pairs) (now (out .entry)) ⌝ }
+{
+    let mut j = 0;
+    while j < pairs {
+        let long = long_at(src, first + j);
+        let k = 2 * j;
+        out[k] = (long % 4294967296) as u32;
+        out[k + 1] = (long / 4294967296) as u32;
+        j += 1;
+    }
+}
+
 fn pattern_run(order: Order, iq: bool, src: &[u8], first: usize, pairs: usize, out: &mut [u32])
     requires { ⌜ pairsFit 4 (length (now src)) first 1 pairs (length (now out)) ≡ true ⌝ }
     ensures { λ _. ⌜ now (out .exit) ≡ laid (pairsOf (patternAt order (now (src .entry))) iq first 1 pairs) (now (out .entry)) ⌝ }
@@ -356,6 +393,10 @@ pub fn pattern_pairs(
     if iq {
         let few = lead(at % 16 + first % 2 * 8, 2 * pairs);
         patterns(order, src, 2 * first, few, 2 * pairs, out);
+        return true;
+    }
+    if is_big(order) {
+        turned_run(src, first, pairs, out);
         return true;
     }
     pattern_run(order, iq, src, first, pairs, out);

@@ -1,5 +1,5 @@
--- The test says whether the pairs fit; they are copied as the numbers that stand there where I is first and the step is 1, else
--- pair by pair.
+-- The test says whether the pairs fit. With step 1 they are copied as the numbers that stand there where I is first, and as one
+-- number each in the big order with Q first; else pair by pair.
 use Prim.Native.Nat.{_+_, _-_, _*_, _≤_}
 use mathlib.Core.Path.{_≡_, refl, sym}
 use mathlib.Core.Bool.{true}
@@ -41,13 +41,19 @@ same-length c = search needs
 returns-3 : tie.Need-returns-3
 returns-3 c = (sym (fits (c .before .before .before .before .before .before)), c .before .before .pattern-steps .ensures)
 
--- with step 1 they end within the bytes and have room
+-- with step 1, they fit as pairs that stand one after the other
+fits-next : (c : tie.Else3) →
+    let a = c .before .before .before .before .before .before .args in
+    pairsFit 4 (length (a .src .now)) (a .first) 1 (a .pairs) (length (a .out .now)) ≡ true
+fits-next c = rw (c .if3 .left) at (fits (c .before .before))
+
+-- so they end within the bytes and have room
 span : (c : tie.Else3) →
     let a = c .before .before .before .before .before .before .args in
     ((a .first + a .pairs) * 8 ≤ length (a .src .now)) × (2 * a .pairs ≤ length (a .out .now))
 span c =
     let a = c .before .before .before .before .before .before .args in
-    let f = rw (c .if3 .left) at (fits (c .before .before)) in
+    let f = fits-next c in
     let last = pair-inside 4 (length (a .src .now)) (a .first) 1 (a .pairs) (length (a .out .now)) f (a .pairs - 1) (omega (arith, c .before .if2 .left)) in
     (omega (arith, last, c .before .if2 .left), pairs-room 4 (length (a .src .now)) (a .first) 1 (a .pairs) (length (a .out .now)) f)
 
@@ -82,15 +88,32 @@ returns-4 c =
     let a = e .before .before .before .before .before .before .args in
     (sym (fits (e .before .before)), rw (t .if4 .taken, e .if3 .left, pairs-reals (patternAt (a .order) (a .src .now)) (a .first) (a .pairs)) (c .before .before .patterns .ensures))
 
-pattern-run-requires : tie.Need-pattern-run-requires
-pattern-run-requires c κs = let e = c .before .before in rw (e .if3 .left) at (fits (e .before .before))
+is-big-requires : tie.Need-is-big-requires
+is-big-requires c κs = search needs
+
+turned-run-requires : tie.Need-turned-run-requires
+turned-run-requires c κs = fits-next (c .before .before .before .before)
 
 same-length-3 : tie.Need-same-length-3
 same-length-3 c = search needs
 
 returns-5 : tie.Need-returns-5
 returns-5 c =
-    let e = c .before .before .before .before .before in
+    let t = c .before .before .before .before in
+    let b = t .before .is-big in
+    let i = t .before .before in
+    let e = i .before in
+    (sym (fits (e .before .before)), rw (b .ensures, t .if5 .taken, i .if4 .left, e .if3 .left) (c .before .before .turned-run .ensures))
+
+pattern-run-requires : tie.Need-pattern-run-requires
+pattern-run-requires c κs = fits-next (c .before .before .before .before)
+
+same-length-4 : tie.Need-same-length-4
+same-length-4 c = search needs
+
+returns-6 : tie.Need-returns-6
+returns-6 c =
+    let e = c .before .before .before .before .before .before .before in
     (sym (fits (e .before .before)), rw (e .if3 .left) (c .before .before .pattern-run .ensures))
 
 pub pattern-pairs-spec : {M : Type 1} → statement M
@@ -112,6 +135,10 @@ pattern-pairs-spec =
     patterns-requires
     same-length-2
     returns-4
-    pattern-run-requires
+    is-big-requires
+    turned-run-requires
     same-length-3
-    returns-5)
+    returns-5
+    pattern-run-requires
+    same-length-4
+    returns-6)
