@@ -5,7 +5,7 @@ use native.Mathlib.Omega.{arith}
 use lib.ListN.{length}
 use mir.Syntax.{w16}
 use mir.Val.{toZ, ofZ}
-use Rattle.copy.specs.Samples.{shortAt, laid}
+use Rattle.copy.specs.Samples.{shortAt}
 use Rattle.copy.proofs.Laws.{pairs-first, fit-all, reals-next, reals-outside, reals-no-room, reals-fit}
 use borrow.Author.Needs.{needs}
 use Rattle.copy.proofs.short_reals.Statement.{statement}
