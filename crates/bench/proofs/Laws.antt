@@ -6,22 +6,23 @@ use mathlib.Core.List.{List}
 use mathlib.Core.Logic.{_⊎_, inl, inr}
 use native.Mathlib.Omega.{arith}
 use lib.Dec.{ltb}
-use lib.ListN.{length, drop, drop-of-length-le}
+use lib.ListN.{length, drop, length-drop, drop-of-length-le}
 use borrow.Author.Tests.{ltb-true, ltb-false}
 use Rattle.num.specs.Answer.{Answer, gives, refuses}
 use Rattle.num.specs.Choice.{both}
 use Rattle.num.specs.declared.Order.{Order}
 use Rattle.num.proofs.Tests.{both-true}
 use Rattle.effect.specs.Says.{Says, ok, unknown, bad, waits, ready}
-use Rattle.frame.specs.Place.{shows}
-use Rattle.frame.specs.declared.At.{At}
-use Rattle.frame.specs.declared.At.the-variants.{NoSync, Bad, Unfinished, Complete}
+use Rattle.frame.specs.Ahead.{aheadOf}
+use Rattle.frame.specs.declared.Ahead.{Ahead}
+use Rattle.frame.specs.declared.Ahead.the-variants.{End, Stretch, Cut, Chunk}
+use Rattle.frame.proofs.Looks.{is-end}
 use Rattle.frame.proofs.Frames.{frames-nil}
 use Rattle.reader.specs.Items.{Given, itemsFrom}
 use Rattle.reader.specs.Step.{Step, stepBy, stepOf, after}
 use Rattle.reader.specs.declared.Cursor.{Cursor}
-use Rattle.reader.proofs.Laws.{step-ahead, step-end}
-use Rattle.reader.specs.Item.{Item, end, skipped, unfinished, chunk, itemSaid}
+use Rattle.reader.proofs.Laws.{step-ahead, step-end, of-chunk}
+use Rattle.reader.specs.Item.{Item, itemSaid}
 use Rattle.reader.specs.Took.{Took}
 use Rattle.reader.specs.declared.Stepped.{Stepped}
 use Rattle.reader.proofs.Theorems.{Fit, step-keeps-fit, told, ahead, one, goes}
@@ -37,25 +38,24 @@ says-most (ready d) = omega arith
 
 most : (a : Answer Item) → soundIn a ≤ 1
 most (refuses n) = omega arith
-most (gives end) = omega arith
-most (gives (skipped p n)) = omega arith
-most (gives (unfinished p n)) = omega arith
-most (gives (chunk p code size says)) = says-most says
+most (gives i) = of-chunk (λ n. n ≤ 1) 0 (λ p code size says. sound says) i (omega arith) (λ p code size says. says-most says)
 
 -- one item counts by itself, and the rest after it
-count-by : (o : Order) (l : List ℕ) (c : Cursor) (rest : List Given) (a : At) →
+count-by : (o : Order) (l : List ℕ) (c : Cursor) (rest : List Given) (a : Ahead) → (a ≡ End → ⊥) →
     let t : Step = stepBy o l c a in
     soundCount (told (t .item) (t .shown) rest) ≡ soundIn (t .item) + soundCount rest
 unfolding soundCount
-count-by o l c rest (Complete code size) = refl
-count-by o l c rest Unfinished = refl
-count-by o l c rest NoSync = refl
-count-by o l c rest Bad = refl
+count-by o l c rest (Chunk code size) h = refl
+count-by o l c rest Cut h = refl
+count-by o l c rest Stretch h = refl
+count-by o l c rest End h = absurd (h refl)
 
 count-one : (o : Order) (s : List ℕ) (c : Cursor) → c .place < length s → Fit c → (rest : List Given) →
     let t : Step = stepOf o s c in
     soundCount (told (t .item) (t .shown) rest) ≡ soundIn (t .item) + soundCount rest
-count-one o s c h f rest = rw (step-ahead o s c h f) (count-by o (drop (c .place) s) c rest (shows o (drop (c .place) s)))
+count-one o s c h f rest =
+    let l = drop (c .place) s in
+    rw (step-ahead o s c (omega arith) f) (count-by o l c rest (aheadOf o l) (λ e. omega (arith, is-end o l e, length-drop (c .place) s)))
 
 -- no step, and a step before the others
 after-none : (o : Order) (s : List ℕ) (c : Cursor) → after 0 o s c ≡ c

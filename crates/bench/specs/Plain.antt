@@ -9,7 +9,7 @@ use Rattle.num.specs.declared.Order.the-variants.{Big, Little}
 use Rattle.effect.specs.Says.{Says, ok, unknown, bad, waits, ready}
 use Rattle.frame.specs.declared.Found.{Found}
 use Rattle.frame.specs.declared.Found.the-variants.{Place, Nothing}
-use Rattle.reader.specs.Item.{Item, end, skipped, unfinished, chunk}
+use Rattle.reader.specs.Item.{Item, ofChunk}
 use Rattle.reader.specs.Items.{Given}
 
 -- the order by its number: 0 is big, any other little
@@ -41,10 +41,7 @@ sound (ready d) = 1
 
 -- the same of an item, 0 where it is no chunk
 abbrev pub soundItem : Item → ℕ
-soundItem end = 0
-soundItem (skipped p n) = 0
-soundItem (unfinished p n) = 0
-soundItem (chunk p code size says) = sound says
+soundItem i = ofChunk 0 (λ place code size says. sound says) i
 
 -- and of what a step answers
 abbrev pub soundIn : Answer Item → ℕ

@@ -85,6 +85,11 @@ seen-checked : {A : Type 0} (k : Checked) (v : A) → checkedSaid k tt ≡ seen 
 seen-checked Good v = refl
 seen-checked (Malformed f) v = refl
 
+-- of a body that has no value there is nothing to leave out
+pub seen-unit : (a : Answer (Unit {0})) → seen a ≡ a
+seen-unit (gives u) = refl
+seen-unit (refuses n) = refl
+
 -- the verdict alone
 pub seen-read : {A : Type 0} {k : Checked} {v none : A} {rule : Answer A} → Read k v none rule → checkedSaid k tt ≡ seen rule
 seen-read {k = k} {v = v} h = seen-checked k v ∙ ap seen (h .said)

@@ -1,4 +1,6 @@
 pub mod Laws
+pub mod ByKeys
+pub mod Faults
 pub mod Floats
 pub mod Nans
 pub mod Lists

@@ -26,3 +26,8 @@ sized k body a = pick (eqb (length body) k) a (refuses 11)
 -- number 12 unless the value is allowed
 abbrev pub allowed : {A : Type 0} → Bool → A → Answer A
 allowed ok v = pick ok (gives v) (refuses 12)
+
+-- what was given, as it is to be held, or what stands for its absence
+abbrev pub orElse : {A B : Type 0} → B → (A → B) → Answer A → B
+orElse none hold (gives a) = hold a
+orElse none hold (refuses n) = none

@@ -11,7 +11,7 @@ use lib.Signed.{leZ}
 use Rattle.num.specs.Answer.{Answer, gives, refuses}
 use Rattle.num.specs.Choice.{pick, both, either, each}
 use Rattle.num.specs.declared.Order.{Order}
-use Rattle.body.specs.Check.{int32, int64, sized, allowed}
+use Rattle.body.specs.Check.{int32, int64, sized, allowed, orElse}
 use Rattle.body.specs.Fault.{faultNumber, checkedSaid}
 use Rattle.body.specs.Levels.{float32, isFinite}
 use Rattle.body.specs.Lists.{sixteen}
@@ -34,8 +34,7 @@ noGains = record { n = 0; values = replicate 16 (ofBits binary32 0) }
 
 -- what was given, or what stands for its absence
 abbrev pub given : {A : Type 0} → A → Answer A → A
-given none (gives a) = a
-given none (refuses n) = none
+given none a = orElse none (λ x. x) a
 
 -- a checker's answer that has its value beside it: it says what the rule says, and a malformed body leaves the value absent
 pub record Read {A : Type 0} (checked : Checked) (value none : A) (rule : Answer A) : Type 0 where

@@ -7,4 +7,6 @@ pub mod Lists
 pub mod Groups
 pub mod Samples
 pub mod Plain
+pub mod Values
+pub mod Table
 pub mod Verdict

@@ -9,6 +9,8 @@ use Rattle.num.specs.declared.Order.{Order}
 use Rattle.body.specs.Check.{int64}
 use Rattle.body.specs.Fault.{faultNumber}
 use Rattle.body.specs.declared.data.Data.{Data}
+use Rattle.body.specs.declared.data.Shape.{Shape}
+use Rattle.body.specs.declared.data.Shape.the-variants.{ShortPairs, ShortReals, ShortGroup, FloatPairs, FloatReals, FloatGroup}
 use Rattle.body.specs.declared.data.DataRead.{DataRead}
 use Rattle.body.specs.declared.data.DataRead.the-variants.{Is, Malformed}
 
@@ -42,3 +44,16 @@ gsnc = timed 4
 
 abbrev pub gfnc : Order → List ℕ → Answer Data
 gfnc = timed 8
+
+-- the bytes of a sample, by its shape
+abbrev pub sampleBytes : Shape → ℕ
+sampleBytes ShortPairs = 4
+sampleBytes ShortReals = 2
+sampleBytes ShortGroup = 4
+sampleBytes FloatPairs = 8
+sampleBytes FloatReals = 4
+sampleBytes FloatGroup = 8
+
+-- a data body, by the shape of its samples
+abbrev pub dataOf : Shape → Order → List ℕ → Answer Data
+dataOf shape = timed (sampleBytes shape)

@@ -2,8 +2,26 @@
 ghost use mathlib.Core.Path.{_≡_};
 ghost use Prim.Native.Nat.{_≤_};
 ghost use Rattle.body.specs.Samples.{dataSaid, timed, ssnc, ssnr, sfnc, sfnr, gsnc, gfnc};
+ghost use Rattle.body.specs.Table.{shaped};
 use crate::fault::Fault;
+use crate::kind::Kind;
 use num::Order;
+
+// What the samples of a data kind are: 16-bit numbers or floats; pairs, reals, or the pairs of a group.
+pub enum Shape {
+    ShortPairs,
+    ShortReals,
+    ShortGroup,
+    FloatPairs,
+    FloatReals,
+    FloatGroup,
+}
+
+// The shape of a kind's samples, or that the kind is no data.
+pub enum Shaped {
+    Samples(Shape),
+    NoSamples,
+}
 
 // The time of the first sample, in nanoseconds since 1970, and how many samples follow: pairs, or reals.
 pub struct Data {
@@ -74,4 +92,19 @@ pub fn gfnc(order: Order, body: &[u8]) -> DataRead
     ensures { λ r. ⌜ dataSaid r ≡ gfnc order (now (body .entry)) ⌝ }
 {
     timed(order, body, 8)
+}
+
+// What the samples of a kind are.
+pub fn shape_of(kind: Kind) -> Shaped
+    ensures { λ r. ⌜ r ≡ shaped kind ⌝ }
+{
+    match kind {
+        Kind::SSNC => Shaped::Samples(Shape::ShortPairs),
+        Kind::SSNR => Shaped::Samples(Shape::ShortReals),
+        Kind::SFNC => Shaped::Samples(Shape::FloatPairs),
+        Kind::SFNR => Shaped::Samples(Shape::FloatReals),
+        Kind::GSNC => Shaped::Samples(Shape::ShortGroup),
+        Kind::GFNC => Shaped::Samples(Shape::FloatGroup),
+        _ => Shaped::NoSamples,
+    }
 }

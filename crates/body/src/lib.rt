@@ -6,4 +6,5 @@ pub mod kind;
 pub mod level;
 pub mod number;
 pub mod plain;
+pub mod value;
 pub mod verdict;

@@ -20,21 +20,21 @@ use Rattle.frame.proofs.find_order.Reads as find_order
 use Rattle.body.specs.Kind.{known, kindIn, kindOf}
 use Rattle.body.specs.Verdict.{verdict}
 use Rattle.copy.specs.Samples.{pairsOf, realsOf}
-use Rattle.state.specs.Good.{goodFrom, goodState}
-use Rattle.state.specs.State.{emptied, withPacking, withRate, withFloatScale}
+use Rattle.state.specs.Good.{goodFrom, goodValues, goodLists}
+use Rattle.state.specs.State.{putIn, built, emptied, withValues}
 use Rattle.effect.specs.Effect.{effect}
 use Rattle.effect.specs.Says.{Says, verdictSaid}
 use Rattle.effect.specs.declared.Verdict.{Verdict}
 use Rattle.effect.specs.declared.Verdict.the-variants.{Ready}
 use Rattle.reader.specs.Item.{chunk, itemSaid}
 use Rattle.reader.specs.Items.{items}
-use Rattle.reader.specs.Step.{Step, cursorAt, newCursor, stepBy, stepOf}
+use Rattle.reader.specs.Step.{Step, cursorAt, newCursor, stepOf}
 use Rattle.reader.specs.declared.Cursor.{Cursor}
 use Rattle.reader.specs.declared.Item as declared
 use Rattle.reader.specs.declared.Item.the-variants.{PastEnd, BadState, End, Skipped, Unfinished, Chunk}
 use Rattle.reader.specs.declared.Stepped.{Stepped}
 use Rattle.reader.proofs.Cursor.step.Reads as step
-use Rattle.reader.proofs.Laws.{unfit, step-ahead}
+use Rattle.reader.proofs.Laws.{unfit, step-accepts}
 use Rattle.reader.proofs.Theorems.{goes}
 use Rattle.reader.proofs.count.Reads as count
 use Rattle.writer.specs.declared.Written.{Written}
@@ -42,7 +42,7 @@ use Rattle.writer.specs.declared.Written.the-variants.{Next}
 use Rattle.writer.proofs.Theorems.{written-told}
 use Rattle.writer.proofs.write.Reads as write
 use Rattle.samples.specs.Copy.{layoutAt, countOf}
-use Rattle.samples.specs.Layout.{shapeOf}
+use Rattle.body.specs.Table.{shaped, packing, rate, floatScale, none}
 use Rattle.samples.specs.declared.Copied.{Copied}
 use Rattle.samples.specs.declared.Copied.the-variants.{Count}
 use Rattle.samples.proofs.AtCursor.{stands}
@@ -89,8 +89,7 @@ no-skipping-reader κs r i h = idle-said (r .item) i (h .1 .item)
 pub no-lost-chunk : (κs : Lfts 1) (a : _) (r : Stepped) (code size : ℕ) → Allows step.Post κs a r → a .0 .place < length (a .1 .1 .0 .now) → unfit (a .0) ≡ false →
     shows (a .1 .0) (drop (a .0 .place) (a .1 .1 .0 .now)) ≡ Complete code size → Idle (r .item) → ⊥
 no-lost-chunk κs a r code size h l f e i =
-    let ahead : List ℕ = drop (a .0 .place) (a .1 .1 .0 .now) in
-    let t = step-ahead (a .1 .0) (a .1 .1 .0 .now) (a .0) l f ∙ ap (stepBy (a .1 .0) ahead (a .0)) e in
+    let t = step-accepts (a .1 .0) (a .1 .1 .0 .now) (a .0) code size l f e in
     idle-said (r .item) i (h .1 .item ∙ ap (λ (x : Step). x .item) t)
 
 -- nor is an order refused that can be found, a record that has room, or a good file
@@ -126,7 +125,7 @@ abbrev pub pair : List ℕ
 pair = whole 0x53 0x53 0x4E 0x43 (0 ∷ 0 ∷ 0 ∷ 0 ∷ 0 ∷ 0 ∷ 0 ∷ 5 ∷ 0 ∷ 1 ∷ 0xFF ∷ 0xFF ∷ [])
 
 abbrev pub knowing : Cursor
-knowing = cursorAt 0 true (withRate (withPacking (emptied false) (record { present = true; value = pos 1 })) (record { present = true; value = pos 1 }))
+knowing = cursorAt 0 true (withValues (emptied false) (putIn rate (record { present = true; value = pos 1 }) (putIn packing (record { present = true; value = pos 1 }) (built none))))
 
 -- a copy of channel 0 into a slice of two numbers may give this answer
 abbrev pub Copies : Lfts 2 → Copied → Type 0
@@ -134,11 +133,11 @@ Copies κs r = Allows shorts.Post κs (Big, (lent pair, (knowing, (0, (lent (pos
 
 -- the count is 2, not 0 and no other, and the two numbers are copied
 pub no-other-count : (κs : Lfts 2) (r : Copied) → Copies κs r → r ≡ Count 2
-unfolding countOf layoutAt shapeOf stepOf goodState goodFrom ofBits shows starts kindOf kindIn known effect
+unfolding countOf layoutAt shaped stepOf goodValues goodLists goodFrom ofBits shows starts kindOf kindIn known effect
 no-other-count κs r h = copied-told r (Count 2) (h .1 .0)
 
 pub no-other-samples : (κs : Lfts 2) (r : Copied) (h : Copies κs r) → h .0 .1 .1 .1 .1 .0 .now ≡ pos 1 ∷ negsuc 0 ∷ []
-unfolding countOf layoutAt pairsOf shapeOf stepOf goodState goodFrom ofBits shows starts kindOf kindIn known effect
+unfolding countOf layoutAt pairsOf shaped stepOf goodValues goodLists goodFrom ofBits shows starts kindOf kindIn known effect
 no-other-samples κs r h = h .1 .1
 
 -- an SFNR chunk with the time 5 and one pattern, which is a NaN, and a cursor that knows sample rate and float full scale
@@ -146,11 +145,11 @@ abbrev pub float : List ℕ
 float = whole 0x53 0x46 0x4E 0x52 (0 ∷ 0 ∷ 0 ∷ 0 ∷ 0 ∷ 0 ∷ 0 ∷ 5 ∷ 0x7F ∷ 0xC0 ∷ 0 ∷ 1 ∷ [])
 
 abbrev pub scaled : Cursor
-scaled = cursorAt 0 true (withFloatScale (withRate (emptied false) (record { present = true; value = pos 1 })) (record { present = true; value = ofBits binary32 0x3F800000 }))
+scaled = cursorAt 0 true (withValues (emptied false) (putIn floatScale (record { present = true; value = ofBits binary32 0x3F800000 }) (putIn rate (record { present = true; value = pos 1 }) (built none))))
 
 pub no-lost-pattern : (κs : Lfts 2) (r : Copied) (h : Allows patterns.Post κs (Big, (lent float, (scaled, (0, (lent (0 ∷ []), tt))))) r) →
     (r ≡ Count 1) × (h .0 .1 .1 .1 .1 .0 .now ≡ 0x7FC00001 ∷ [])
-unfolding countOf layoutAt realsOf shapeOf stepOf goodState goodFrom ofBits lt shows starts kindOf kindIn known effect
+unfolding countOf layoutAt realsOf shaped stepOf goodValues goodLists goodFrom ofBits lt shows starts kindOf kindIn known effect
 no-lost-pattern κs r h = (copied-told r (Count 1) (h .1 .0), h .1 .1)
 
 -- ---- one that tracks the state for the first chunk and repeats it
@@ -172,14 +171,14 @@ next c = stepOf Big changing c .cursor
 pub no-repeated-state : (κs : Lfts 1) (r₁ r₂ r₃ r₄ : Stepped) →
     Steps κs newCursor changing r₁ → Steps κs (r₁ .cursor) changing r₂ → Steps κs (r₂ .cursor) changing r₃ → Steps κs (r₃ .cursor) changing r₄ →
     r₂ .shown ≡ r₄ .shown → ⊥
-unfolding stepOf goodState goodFrom ofBits shows starts kindOf kindIn known effect
+unfolding stepOf goodValues goodLists goodFrom ofBits shows starts kindOf kindIn known effect
 no-repeated-state κs r₁ r₂ r₃ r₄ h₁ h₂ h₃ h₄ e =
     let c₁ : r₁ .cursor ≡ next newCursor = h₁ .1 .cursor in
     let c₂ : r₂ .cursor ≡ next (next newCursor) = h₂ .1 .cursor ∙ ap next c₁ in
     let c₃ : r₃ .cursor ≡ next (next (next newCursor)) = h₃ .1 .cursor ∙ ap next c₂ in
     let s₂ = h₂ .1 .shown ∙ ap (λ (c : Cursor). stepOf Big changing c .shown) c₁ in
     let s₄ = h₄ .1 .shown ∙ ap (λ (c : Cursor). stepOf Big changing c .shown) c₃ in
-    let f : pos 1 ≡ pos 2 = ap (λ x. x .rate .value) (sym s₂ ∙ e ∙ s₄) in
+    let f : pos 1 ≡ pos 2 = ap (λ x. x .values .rate .value) (sym s₂ ∙ e ∙ s₄) in
     let z : _≡_ {A = ℕ} 1 2 = cc in
     absurd (omega arith)
 
@@ -197,5 +196,5 @@ no-extra-item κs a h = absurd (omega (arith, h .1))
 
 -- the item of the pair above has its one sample
 pub no-invented-samples : (κs : Lfts 1) (r : Stepped) → Steps κs knowing pair r → r .item ≡ Chunk 0 0x53534E43 12 (Ready (record { time = pos 5; samples = 1 }))
-unfolding stepOf goodState goodFrom ofBits shows starts kindOf kindIn known effect
+unfolding stepOf goodValues goodLists goodFrom ofBits shows starts kindOf kindIn known effect
 no-invented-samples κs r h = item-told (r .item) (Chunk 0 0x53534E43 12 (Ready (record { time = pos 5; samples = 1 }))) (h .1 .item)

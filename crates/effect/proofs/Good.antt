@@ -14,11 +14,13 @@ use Rattle.num.specs.Choice.{both, either}
 use Rattle.num.specs.Number.{unsignedAt}
 use Rattle.num.specs.declared.Order.{Order}
 use Rattle.num.proofs.Tests.{both-true, each-at}
-use Rattle.body.specs.Check.{int32, int64, allowed}
+use Rattle.body.specs.Check.{int32, int64, allowed, orElse}
 use Rattle.body.specs.Numbers.{siqp, sr, bw, cf, bwof}
 use Rattle.body.specs.Levels.{isFinite, finite32, dbfs, dbtg, ffs}
 use Rattle.body.specs.Lists.{sixteen}
-use Rattle.body.specs.Groups.{given, noPacking, noHertz, noGains, isNumber, headOk, offsetAt, offsetsOk, hertzAt, gainAt, gainsOk, packed, tuned, amplified, giqp, gcf, grg}
+use Rattle.body.specs.Table.{Slot, Value, none, Row, sets, marks, leaves, samples, unknown, row}
+use Rattle.body.specs.Values.{amount}
+use Rattle.body.specs.Groups.{isNumber, headOk, offsetAt, offsetsOk, hertzAt, gainAt, gainsOk, packed, tuned, amplified, giqp, gcf, grg}
 use Rattle.body.specs.declared.kind.Kind.{Kind}
 use Rattle.body.specs.declared.kind.Kind.the-variants.{SSNC, SSNR, SFNC, SFNR, GSNC, GFNC, SIQP, SR, BW, GCBW, BWOF, CF, DBFS, DBTG, FFS, GIQP, GCF, GRG, SOFH, EOFH, IQDC, TEXT, Unknown}
 use Rattle.body.specs.declared.level.Level.{Level}
@@ -28,31 +30,10 @@ use Rattle.body.specs.declared.group.GroupPacking.{GroupPacking}
 use Rattle.body.specs.declared.group.GroupHertz.{GroupHertz}
 use Rattle.body.specs.declared.group.GroupGains.{GroupGains}
 use Rattle.body.proofs.Allowed.{sized-gives, finite-gives, then-gives, listed-gives, small32}
-use Rattle.state.specs.Good.{zeroOrOne, anyNumber, scale, offset, nothing, isZero, isPlusZero, goodNumber, goodBand, goodLevel, goodList, goodGroup, goodFrequencies, goodGains, goodState}
+use Rattle.state.specs.Good.{zeroOrOne, anyNumber, scale, offset, nothing, isZero, isPlusZero, goodList, goodGroup, goodFrequencies, goodGains, goodIn, goodState}
 use Rattle.state.specs.declared.State.{State}
-use Rattle.state.proofs.Laws.{with-packing-good, with-rate-good, with-band-good, with-group-band-good, with-centre-good, with-full-scale-good, with-total-gain-good, with-float-scale-good, with-group-good, with-frequencies-good, with-gains-good, with-mark-good, no-number-good, no-band-good, no-level-good, no-packing-good, no-hertz-good, no-gains-good, upto-good}
-use Rattle.effect.specs.Effect.{held, centred, banded, amount, levelled, effect}
-
--- a value that is given and allowed, or absent, is good
-held-good : (ok : ℤ → Bool) (a : Answer ℤ) → ((v : ℤ) → a ≡ gives v → ok v ≡ true) → goodNumber ok (held a) ≡ true
-held-good ok (gives v) h = h v refl
-held-good ok (refuses n) h = no-number-good ok
-
-centred-good : (a : Answer ℤ) → ((v : ℤ) → a ≡ gives v → leZ (pos 0) v ≡ true) → goodBand (centred a) ≡ true
-centred-good (gives v) h = h v refl
-centred-good (refuses n) h = no-band-good
-
-banded-good : (a : Answer Band) → ((b : Band) → a ≡ gives b → leZ (pos 0) (b .width) ≡ true) → goodBand (banded a) ≡ true
-banded-good (gives b) h = h b refl
-banded-good (refuses n) h = no-band-good
-
-levelled-good : (ok : Float → Bool) (a : Answer Level) → ((l : Level) → a ≡ gives l → ok (amount l) ≡ true) → goodLevel ok (levelled a) ≡ true
-levelled-good ok (gives l) h = h l refl
-levelled-good ok (refuses n) h = no-level-good ok
-
-given-good : {A : Type 0} (good : A → Bool) (none : A) (a : Answer A) → good none ≡ true → ((x : A) → a ≡ gives x → good x ≡ true) → good (given none a) ≡ true
-given-good good none (gives x) n h = h x refl
-given-good good none (refuses k) n h = n
+use Rattle.state.proofs.Laws.{put-good, none-good, upto-good}
+use Rattle.effect.specs.Effect.{effectBy, effect}
 
 -- ---- what each kind gives
 
@@ -139,31 +120,54 @@ grg-good o b g e =
     let used : (c : ℕ) → c < n → isFinite (gainAt o b c) ≡ true = λ c q. each-at (λ (i : ℕ). isFinite (gainAt o b i)) n c (k .0) q in
     sym (ap goodGains (k .1)) ∙ upto-good isFinite isPlusZero (gainAt o b) (ofBits binary32 0) n used plus-zero (h .2)
 
--- ---- each kind
+-- ---- what a well-formed chunk sets, its slot may hold
+
+abbrev pub Allows : Row → Type 0
+Allows (sets {A = A} x hold read) = (o : Order) (b : List ℕ) (a : A) → read o b ≡ gives a → goodIn x (hold a) ≡ true
+Allows (marks read) = Unit {0}
+Allows (leaves read) = Unit {0}
+Allows (samples shape) = Unit {0}
+Allows unknown = Unit {0}
+
+pub allows : (k : Kind) → Allows (row k)
+allows SIQP = siqp-good
+allows SR = sr-good
+allows BW = bw-good
+allows BWOF = bwof-good
+allows GCBW = bw-good
+allows CF = λ o b v e. refl
+allows DBFS = λ o b l e. level-good o b FullScale l (λ x. refl) e
+allows DBTG = λ o b l e. level-good o b TotalGain l (λ x. refl) e
+allows FFS = ffs-good
+allows GIQP = giqp-good
+allows GCF = gcf-good
+allows GRG = grg-good
+allows SOFH = tt
+allows EOFH = tt
+allows TEXT = tt
+allows IQDC = tt
+allows Unknown = tt
+allows SSNC = tt
+allows SSNR = tt
+allows SFNC = tt
+allows SFNR = tt
+allows GSNC = tt
+allows GFNC = tt
+
+-- ---- a chunk leaves a good state
+
+or-else-good : {A : Type 0} (x : Slot) (hold : A → Value x) (r : Answer A) → ((a : A) → r ≡ gives a → goodIn x (hold a) ≡ true) → goodIn x (orElse (none x) hold r) ≡ true
+or-else-good x hold (gives a) h = h a refl
+or-else-good x hold (refuses n) h = none-good x
 
 module _ (o : Order) (b : List ℕ) (s : State) (g : goodState s ≡ true) where
+  row-good : (r : Row) → Allows r → goodState (effectBy r o b s .after) ≡ true
+  row-good (sets x hold read) h = put-good x (orElse (none x) hold (read o b)) s g (or-else-good x hold (read o b) (h o b))
+  row-good (marks read) h = g
+  row-good (leaves read) h = g
+  row-good (samples shape) h = g
+  row-good unknown h = g
+
   pub effect-good : (k : Kind) → goodState (effect o k b s .after) ≡ true
   unfolding effect
-  effect-good SIQP = with-packing-good s (held (siqp o b)) g (held-good zeroOrOne (siqp o b) (siqp-good o b))
-  effect-good SR = with-rate-good s (held (sr o b)) g (held-good (leZ (pos 1)) (sr o b) (sr-good o b))
-  effect-good BW = with-band-good s (centred (bw o b)) g (centred-good (bw o b) (bw-good o b))
-  effect-good BWOF = with-band-good s (banded (bwof o b)) g (banded-good (bwof o b) (bwof-good o b))
-  effect-good GCBW = with-group-band-good s (held (bw o b)) g (held-good (leZ (pos 0)) (bw o b) (bw-good o b))
-  effect-good CF = with-centre-good s (held (cf o b)) g (held-good anyNumber (cf o b) (λ v e. refl))
-  effect-good DBFS = with-full-scale-good s (levelled (dbfs o b)) g (levelled-good isFinite (dbfs o b) (λ l e. level-good o b FullScale l (λ x. refl) e))
-  effect-good DBTG = with-total-gain-good s (levelled (dbtg o b)) g (levelled-good isFinite (dbtg o b) (λ l e. level-good o b TotalGain l (λ x. refl) e))
-  effect-good FFS = with-float-scale-good s (levelled (ffs o b)) g (levelled-good scale (ffs o b) (ffs-good o b))
-  effect-good GIQP = with-group-good s (given noPacking (giqp o b)) g (given-good goodGroup noPacking (giqp o b) no-packing-good (giqp-good o b))
-  effect-good GCF = with-frequencies-good s (given noHertz (gcf o b)) g (given-good goodFrequencies noHertz (gcf o b) no-hertz-good (gcf-good o b))
-  effect-good GRG = with-gains-good s (given noGains (grg o b)) g (given-good goodGains noGains (grg o b) no-gains-good (grg-good o b))
-  effect-good SOFH = g
-  effect-good EOFH = g
-  effect-good TEXT = g
-  effect-good IQDC = with-mark-good s _ g
-  effect-good Unknown = g
-  effect-good SSNC = with-mark-good s _ g
-  effect-good SSNR = with-mark-good s _ g
-  effect-good SFNC = with-mark-good s _ g
-  effect-good SFNR = with-mark-good s _ g
-  effect-good GSNC = with-mark-good s _ g
-  effect-good GFNC = with-mark-good s _ g
+  effect-good k = row-good (row k) (allows k)

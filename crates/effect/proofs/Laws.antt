@@ -1,16 +1,25 @@
 -- Laws of effects.
+use Prim.Native.Nat.{ℕ}
 use mathlib.Core.Bool.{Bool}
+use mathlib.Core.List.{List}
+use native.Mathlib.Omega.{arith}
 use mathlib.Core.Path.{_≡_, refl, ap, _∙_}
 use Rattle.num.specs.Choice.{pick}
 use Rattle.num.specs.Answer.{Answer, gives, refuses}
+use Rattle.num.specs.declared.Order.{Order}
 use Rattle.body.specs.Fault.{checkedSaid}
 use Rattle.body.specs.Groups.{Read}
 use Rattle.body.specs.declared.fault.Checked.{Checked}
 use Rattle.body.specs.declared.fault.Checked.the-variants.{Good, Malformed}
+use Rattle.body.specs.Check.{orElse}
+use Rattle.body.specs.Table.{Slot, Value, none, Row, sets, marks, leaves, samples, unknown, row, shapedBy, shaped}
+use Rattle.body.specs.declared.data.Shaped.the-variants.{NoSamples}
+use Rattle.body.specs.declared.kind.Kind.{Kind}
+use Rattle.state.specs.State.{putIn, withValues}
 use Rattle.state.specs.declared.State.{State}
 use Rattle.effect.specs.Says.{Says, verdictSaid, judged}
 use Rattle.effect.specs.Ready.{noState, inGroup, readyData}
-use Rattle.effect.specs.Effect.{met, timed}
+use Rattle.effect.specs.Effect.{met, timed, effectBy, effect}
 use Rattle.effect.specs.Took.{Took}
 use Rattle.effect.specs.declared.Taken.{Taken}
 use Rattle.effect.specs.declared.ready.Judged.{Judged}
@@ -21,9 +30,15 @@ pub met-took : {A : Type 0} {r : Taken} {v : Verdict} {next : State} (a : Answer
     (r .verdict ≡ v) × (r .shown ≡ noState) × (r .state ≡ next) → verdictSaid v ≡ judged a → next ≡ n → Took r (met a n)
 met-took a n h e q = record { says = ap verdictSaid (h .0) ∙ e; shown = h .1; after = h .2 ∙ q }
 
+-- one that puts a value into its slot is the effect of a chunk that sets it
+pub set-took : {A : Type 0} {r : Taken} {v : Verdict} (x : Slot) (hold : A → Value x) (a : Answer A) (s : State) {value : Value x} →
+    (r .verdict ≡ v) × (r .shown ≡ noState) × (r .state ≡ withValues s (putIn x value (s .values))) → verdictSaid v ≡ judged a → value ≡ orElse (none x) hold a →
+    Took r (met a (withValues s (putIn x (orElse (none x) hold a) (s .values))))
+set-took x hold a s h e q = met-took a _ h e (ap (λ y. withValues s (putIn x y (s .values))) q)
+
 -- an answer to what is said of a data chunk is its effect
 pub data-took : {r : Taken} {says : Says} {j k : Judged} (s : State) (g : Bool) → j ≡ k →
-    (verdictSaid (k .verdict) ≡ says) × (k .group ≡ g) → Took r (timed (verdictSaid (j .verdict)) (pick (j .group) (inGroup s) s) s) → Took r (timed says (pick g (inGroup s) s) s)
+    (verdictSaid (k .verdict) ≡ says) × (k .group ≡ g) → Took r (timed (verdictSaid (j .verdict)) (pick (j .group) (inGroup (s .values)) (s .values)) s) → Took r (timed says (pick g (inGroup (s .values)) (s .values)) s)
 data-took s g e p h = rw (← p .0, ← p .1, ← e) h
 
 judged-checked : {A : Type 0} (k : Checked) (v : A) → judged (checkedSaid k (tt {0})) ≡ judged (checkedSaid k v)
@@ -34,7 +49,18 @@ judged-checked (Malformed f) v = refl
 pub read-judged : {A : Type 0} {k : Checked} {v none : A} {rule : Answer A} → Read k v none rule → judged (checkedSaid k (tt {0})) ≡ judged rule
 read-judged {k = k} {v = v} h = judged-checked k v ∙ ap judged (h .said)
 
--- a chunk that is no data is not ready
 pub not-data : {A : Type 0} (a : Answer A) → refuses 35 ≡ readyData (judged a)
 not-data (gives x) = refl
 not-data (refuses n) = refl
+
+-- a chunk that is no data is not ready
+no-samples : (r : Row) (o : Order) (b : List ℕ) (s : State) → shapedBy r ≡ NoSamples → refuses 35 ≡ readyData (effectBy r o b s .says)
+no-samples (sets x hold read) o b s e = not-data (read o b)
+no-samples (marks read) o b s e = not-data (read o b)
+no-samples (leaves read) o b s e = not-data (read o b)
+no-samples (samples shape) o b s e = let z : _≡_ {A = ℕ} 0 1 = cc in absurd (omega arith)
+no-samples unknown o b s e = refl
+
+pub no-data : (o : Order) (k : Kind) (b : List ℕ) (s : State) → shaped k ≡ NoSamples → refuses 35 ≡ readyData (effect o k b s .says)
+unfolding effect shaped
+no-data o k b s e = no-samples (row k) o b s e

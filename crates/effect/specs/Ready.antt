@@ -1,16 +1,20 @@
 -- When a data chunk is ready, and what it shows.
 use Prim.Native.Nat.{ℕ}
 use mathlib.Core.Bool.{Bool, true, false}
-use lib.Dec.{eqb}
+use lib.Dec.{eqb, ltb}
 use Rattle.num.specs.Answer.{Answer, gives, refuses}
 use Rattle.num.specs.Choice.{pick}
 use Rattle.body.specs.Groups.{noHertz, noGains}
 use Rattle.body.specs.declared.data.Data.{Data}
+use Rattle.body.specs.declared.data.Shape.{Shape}
+use Rattle.body.specs.declared.data.Shape.the-variants.{ShortPairs, ShortReals, ShortGroup, FloatPairs, FloatReals, FloatGroup}
 use Rattle.body.specs.declared.group.GroupPacking.{GroupPacking}
 use Rattle.body.specs.declared.group.GroupHertz.{GroupHertz}
 use Rattle.body.specs.declared.group.GroupGains.{GroupGains}
 use Rattle.cover.specs.Cover.{groupCovers}
-use Rattle.state.specs.State.{emptied, withFrequencies, withGains}
+use Rattle.body.specs.Table.{frequencies, gains}
+use Rattle.state.specs.State.{emptied, putIn}
+use Rattle.state.specs.declared.Values.{Values}
 use Rattle.state.specs.declared.State.{State}
 use Rattle.effect.specs.Says.{Says, ok, unknown, bad, waits, ready}
 use Rattle.effect.specs.declared.ask.Asked.{Asked}
@@ -31,6 +35,24 @@ covering g (bad n) = bad n
 covering g (waits n t) = waits n t
 covering g (ready d) = pick (groupCovers (d .samples) (g .n) (g .increment) (g .offsets)) (ready d) (bad 16)
 
+-- What is said of a data chunk with these values, by the shape of its samples: pairs wait for the packing, those of a group
+-- for the group packing, and floats for their full scale.
+abbrev pub saysOf : Shape → Answer Data → Values → Says
+saysOf ShortPairs a v = dataSays a (v .packing .present) (v .rate .present) true
+saysOf ShortReals a v = dataSays a true (v .rate .present) true
+saysOf ShortGroup a v = covering (v .group) (dataSays a (ltb 0 (v .group .n)) (v .rate .present) true)
+saysOf FloatPairs a v = dataSays a (v .packing .present) (v .rate .present) (v .«float_scale» .present)
+saysOf FloatReals a v = dataSays a true (v .rate .present) (v .«float_scale» .present)
+saysOf FloatGroup a v = covering (v .group) (dataSays a (ltb 0 (v .group .n)) (v .rate .present) (v .«float_scale» .present))
+
+abbrev pub ofGroup : Shape → Bool
+ofGroup ShortPairs = false
+ofGroup ShortReals = false
+ofGroup ShortGroup = true
+ofGroup FloatPairs = false
+ofGroup FloatReals = false
+ofGroup FloatGroup = true
+
 -- nothing is shown
 abbrev pub noState : State
 noState = emptied false
@@ -50,8 +72,8 @@ hertzOf n h = pick (eqb (h .n) n) h noHertz
 abbrev pub gainsOf : ℕ → GroupGains → GroupGains
 gainsOf n g = pick (eqb (g .n) n) g noGains
 
-abbrev pub inGroup : State → State
-inGroup s = withGains (withFrequencies s (hertzOf (s .group .n) (s .frequencies))) (gainsOf (s .group .n) (s .gains))
+abbrev pub inGroup : Values → Values
+inGroup v = putIn gains (gainsOf (v .group .n) (v .gains)) (putIn frequencies (hertzOf (v .group .n) (v .frequencies)) v)
 
 -- the data of a chunk that is ready; of any other there is none to copy: number 35
 abbrev pub readyData : Says → Answer Data

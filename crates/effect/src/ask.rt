@@ -37,13 +37,10 @@ fn answer(judged: Judged) -> Asked
 pub fn ready_data(order: Order, kind: Kind, body: &[u8], was: State) -> Asked
     ensures { λ r. ⌜ askedSaid r ≡ readyData (effect order kind (now (body .entry)) was .says) ⌝ }
 {
-    let packing = was.packing;
-    let rate = was.rate;
-    let scale = was.float_scale;
-    let group = was.group;
-    let packed = packing.present;
-    let rated = rate.present;
-    let scaled = scale.present;
+    let packed = was.values.packing.present;
+    let rated = was.values.rate.present;
+    let scaled = was.values.float_scale.present;
+    let group = was.values.group;
     match kind {
         Kind::SSNC => answer(single(data::ssnc(order, body), packed, rated, true)),
         Kind::SSNR => answer(single(data::ssnr(order, body), true, rated, true)),
@@ -51,22 +48,6 @@ pub fn ready_data(order: Order, kind: Kind, body: &[u8], was: State) -> Asked
         Kind::SFNR => answer(single(data::sfnr(order, body), true, rated, scaled)),
         Kind::GSNC => answer(grouped(data::gsnc(order, body), group, rated, true)),
         Kind::GFNC => answer(grouped(data::gfnc(order, body), group, rated, scaled)),
-        Kind::SIQP => Asked::NotReady,
-        Kind::SR => Asked::NotReady,
-        Kind::BW => Asked::NotReady,
-        Kind::GCBW => Asked::NotReady,
-        Kind::BWOF => Asked::NotReady,
-        Kind::CF => Asked::NotReady,
-        Kind::DBFS => Asked::NotReady,
-        Kind::DBTG => Asked::NotReady,
-        Kind::FFS => Asked::NotReady,
-        Kind::GIQP => Asked::NotReady,
-        Kind::GCF => Asked::NotReady,
-        Kind::GRG => Asked::NotReady,
-        Kind::SOFH => Asked::NotReady,
-        Kind::EOFH => Asked::NotReady,
-        Kind::IQDC => Asked::NotReady,
-        Kind::TEXT => Asked::NotReady,
-        Kind::Unknown => Asked::NotReady,
+        _ => Asked::NotReady,
     }
 }

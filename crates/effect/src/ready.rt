@@ -4,6 +4,7 @@ ghost use mathlib.Core.Bool.{true, false};
 ghost use lib.Dec.{ltb};
 ghost use Rattle.num.specs.Choice.{pick};
 ghost use Rattle.body.specs.Samples.{dataSaid};
+ghost use Rattle.state.specs.State.{withValues};
 ghost use Rattle.effect.specs.Says.{verdictSaid};
 ghost use Rattle.effect.specs.Ready.{dataSays, covering, isReady, hertzOf, gainsOf, inGroup};
 ghost use Rattle.effect.specs.Effect.{timed};
@@ -16,6 +17,7 @@ use body::group::GroupGains;
 use body::group::GroupHertz;
 use body::group::GroupPacking;
 use state::State;
+use state::Values;
 
 // The first lack decides.
 fn verdict_of(read: DataRead, packed: bool, rated: bool, scaled: bool) -> Verdict
@@ -84,8 +86,8 @@ fn gains_of(n: usize, g: GroupGains) -> GroupGains
     if g.n == n { g } else { body::group::no_gains() }
 }
 
-// The state as a group chunk shows it.
-fn in_group(was: State) -> State
+// The values as a group chunk shows them.
+fn in_group(was: Values) -> Values
     ensures { λ r. ⌜ r ≡ inGroup was ⌝ }
 {
     let group = was.group;
@@ -107,19 +109,22 @@ pub struct Judged {
 
 // The state that a ready chunk shows.
 fn shows(group: bool, was: State) -> State
-    ensures { λ r. ⌜ r ≡ pick group (inGroup was) was ⌝ }
+    ensures { λ r. ⌜ r ≡ withValues was (pick group (inGroup (was .values)) (was .values)) ⌝ }
 {
-    if group { in_group(was) } else { was }
+    if group {
+        was.with_values(in_group(was.values))
+    } else {
+        was
+    }
 }
 
-// A ready chunk shows a state and clears the start mark; any other shows nothing and sets it.
+// A ready chunk shows values with the start mark, and clears the mark; any other shows nothing and sets it.
 pub(crate) fn timed(judged: Judged, was: State) -> Taken
-    ensures { λ r. ⌜ Took r (timed (verdictSaid (judged .verdict)) (pick (judged .group) (inGroup was) was) was) ⌝ }
+    ensures { λ r. ⌜ Took r (timed (verdictSaid (judged .verdict)) (pick (judged .group) (inGroup (was .values)) (was .values)) was) ⌝ }
 {
     let verdict = judged.verdict;
     let ready = is_ready(verdict);
-    let mut next = was;
-    next.mark = !ready;
+    let next = was.with_mark(!ready);
     if ready {
         return Taken {
             verdict,

@@ -1,5 +1,6 @@
 // The effect of a chunk, by its kind.
 ghost use mathlib.Core.Path.{_≡_};
+ghost use Rattle.state.specs.State.{withValues};
 ghost use Rattle.effect.specs.Effect.{effect};
 ghost use Rattle.effect.specs.Ready.{noState};
 ghost use Rattle.effect.specs.Took.{Took};
@@ -17,6 +18,7 @@ use body::number;
 use body::plain;
 use num::Order;
 use state::State;
+use state::Values;
 
 // A chunk that is no data shows nothing.
 fn met(verdict: Verdict, next: State) -> Taken
@@ -29,14 +31,21 @@ fn met(verdict: Verdict, next: State) -> Taken
     }
 }
 
+// A chunk that sets a value leaves the state with these values.
+fn set(verdict: Verdict, was: State, values: Values) -> Taken
+    ensures { λ r. ⌜ (r .verdict ≡ verdict) × (r .shown ≡ noState) × (r .state ≡ withValues was values) ⌝ }
+{
+    met(verdict, was.with_values(values))
+}
+
 fn siqp(order: Order, body: &[u8], was: State) -> Taken
     ensures { λ r. ⌜ Took r (effect order Kind.SIQP (now (body .entry)) was) ⌝ }
 {
     let read = number::siqp(order, body);
     let value = value::held(read);
-    let mut next = was;
-    next.packing = value;
-    met(value::of_number(read), next)
+    let mut values = was.values;
+    values.packing = value;
+    set(value::of_number(read), was, values)
 }
 
 fn sr(order: Order, body: &[u8], was: State) -> Taken
@@ -44,9 +53,9 @@ fn sr(order: Order, body: &[u8], was: State) -> Taken
 {
     let read = number::sr(order, body);
     let value = value::held(read);
-    let mut next = was;
-    next.rate = value;
-    met(value::of_number(read), next)
+    let mut values = was.values;
+    values.rate = value;
+    set(value::of_number(read), was, values)
 }
 
 fn bw(order: Order, body: &[u8], was: State) -> Taken
@@ -54,9 +63,9 @@ fn bw(order: Order, body: &[u8], was: State) -> Taken
 {
     let read = number::bw(order, body);
     let value = value::centred(read);
-    let mut next = was;
-    next.band = value;
-    met(value::of_number(read), next)
+    let mut values = was.values;
+    values.band = value;
+    set(value::of_number(read), was, values)
 }
 
 fn bwof(order: Order, body: &[u8], was: State) -> Taken
@@ -64,9 +73,9 @@ fn bwof(order: Order, body: &[u8], was: State) -> Taken
 {
     let read = number::bwof(order, body);
     let value = value::banded(read);
-    let mut next = was;
-    next.band = value;
-    met(value::of_band(read), next)
+    let mut values = was.values;
+    values.band = value;
+    set(value::of_band(read), was, values)
 }
 
 fn gcbw(order: Order, body: &[u8], was: State) -> Taken
@@ -74,9 +83,9 @@ fn gcbw(order: Order, body: &[u8], was: State) -> Taken
 {
     let read = number::bw(order, body);
     let value = value::held(read);
-    let mut next = was;
-    next.group_band = value;
-    met(value::of_number(read), next)
+    let mut values = was.values;
+    values.group_band = value;
+    set(value::of_number(read), was, values)
 }
 
 fn cf(order: Order, body: &[u8], was: State) -> Taken
@@ -84,9 +93,9 @@ fn cf(order: Order, body: &[u8], was: State) -> Taken
 {
     let read = number::cf(order, body);
     let value = value::held(read);
-    let mut next = was;
-    next.centre = value;
-    met(value::of_number(read), next)
+    let mut values = was.values;
+    values.centre = value;
+    set(value::of_number(read), was, values)
 }
 
 fn dbfs(order: Order, body: &[u8], was: State) -> Taken
@@ -94,9 +103,9 @@ fn dbfs(order: Order, body: &[u8], was: State) -> Taken
 {
     let read = level::dbfs(order, body);
     let value = value::levelled(read);
-    let mut next = was;
-    next.full_scale = value;
-    met(value::of_level(read), next)
+    let mut values = was.values;
+    values.full_scale = value;
+    set(value::of_level(read), was, values)
 }
 
 fn dbtg(order: Order, body: &[u8], was: State) -> Taken
@@ -104,9 +113,9 @@ fn dbtg(order: Order, body: &[u8], was: State) -> Taken
 {
     let read = level::dbtg(order, body);
     let value = value::levelled(read);
-    let mut next = was;
-    next.total_gain = value;
-    met(value::of_level(read), next)
+    let mut values = was.values;
+    values.total_gain = value;
+    set(value::of_level(read), was, values)
 }
 
 fn ffs(order: Order, body: &[u8], was: State) -> Taken
@@ -114,9 +123,9 @@ fn ffs(order: Order, body: &[u8], was: State) -> Taken
 {
     let read = level::ffs(order, body);
     let value = value::levelled(read);
-    let mut next = was;
-    next.float_scale = value;
-    met(value::of_level(read), next)
+    let mut values = was.values;
+    values.float_scale = value;
+    set(value::of_level(read), was, values)
 }
 
 fn giqp(order: Order, body: &[u8], was: State) -> Taken
@@ -125,9 +134,9 @@ fn giqp(order: Order, body: &[u8], was: State) -> Taken
     let read = group::giqp(order, body);
     let value = read.packing;
     let checked = read.checked;
-    let mut next = was;
-    next.group = value;
-    met(value::of_checked(checked), next)
+    let mut values = was.values;
+    values.group = value;
+    set(value::of_checked(checked), was, values)
 }
 
 fn gcf(order: Order, body: &[u8], was: State) -> Taken
@@ -136,9 +145,9 @@ fn gcf(order: Order, body: &[u8], was: State) -> Taken
     let read = group::gcf(order, body);
     let value = read.hertz;
     let checked = read.checked;
-    let mut next = was;
-    next.frequencies = value;
-    met(value::of_checked(checked), next)
+    let mut values = was.values;
+    values.frequencies = value;
+    set(value::of_checked(checked), was, values)
 }
 
 fn grg(order: Order, body: &[u8], was: State) -> Taken
@@ -147,9 +156,9 @@ fn grg(order: Order, body: &[u8], was: State) -> Taken
     let read = group::grg(order, body);
     let value = read.gains;
     let checked = read.checked;
-    let mut next = was;
-    next.gains = value;
-    met(value::of_checked(checked), next)
+    let mut values = was.values;
+    values.gains = value;
+    set(value::of_checked(checked), was, values)
 }
 
 // A well-formed IQDC sets the start mark.
@@ -157,22 +166,18 @@ fn iqdc(order: Order, body: &[u8], was: State) -> Taken
     ensures { λ r. ⌜ Took r (effect order Kind.IQDC (now (body .entry)) was) ⌝ }
 {
     let checked = plain::empty(body);
-    let mut next = was;
-    next.mark = value::marked(checked, was.mark);
-    met(value::of_checked(checked), next)
+    let mark = value::marked(checked, was.mark);
+    met(value::of_checked(checked), was.with_mark(mark))
 }
 
 // What a chunk says, shows and leaves.
 pub fn take(order: Order, kind: Kind, body: &[u8], was: State) -> Taken
     ensures { λ r. ⌜ Took r (effect order kind (now (body .entry)) was) ⌝ }
 {
-    let packing = was.packing;
-    let rate = was.rate;
-    let scale = was.float_scale;
-    let group = was.group;
-    let packed = packing.present;
-    let rated = rate.present;
-    let scaled = scale.present;
+    let packed = was.values.packing.present;
+    let rated = was.values.rate.present;
+    let scaled = was.values.float_scale.present;
+    let group = was.values.group;
     let judged = match kind {
         Kind::SSNC => single(data::ssnc(order, body), packed, rated, true),
         Kind::SSNR => single(data::ssnr(order, body), true, rated, true),

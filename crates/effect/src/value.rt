@@ -4,9 +4,10 @@ ghost use Rattle.body.specs.Fault.{checkedSaid};
 ghost use Rattle.body.specs.Levels.{levelSaid};
 ghost use Rattle.body.specs.Numbers.{numberSaid, bandSaid};
 ghost use Rattle.body.specs.Plain.{textSaid};
-ghost use Rattle.state.specs.State.{noBand};
+ghost use Rattle.body.specs.Check.{orElse};
+ghost use Rattle.body.specs.Values.{noNumber, noBand, noLevel, number, centred, banded, amount, levelled};
 ghost use Rattle.effect.specs.Says.{verdictSaid, judged};
-ghost use Rattle.effect.specs.Effect.{held, centred, banded, amount, levelled, marked};
+ghost use Rattle.effect.specs.Effect.{marked};
 use crate::Verdict;
 use body::fault::Checked;
 use body::level::Level;
@@ -14,38 +15,26 @@ use body::level::LevelRead;
 use body::number::BandRead;
 use body::number::Number;
 use body::plain::TextRead;
-use state::BandHeld;
-use state::Held;
-use state::LevelHeld;
+use body::value;
+use body::value::BandHeld;
+use body::value::Held;
+use body::value::LevelHeld;
 
 pub(crate) fn held(read: Number) -> Held
-    ensures { λ r. ⌜ r ≡ held (numberSaid read) ⌝ }
+    ensures { λ r. ⌜ r ≡ orElse noNumber number (numberSaid read) ⌝ }
 {
     match read {
         Number::Is(v) => Held {
             present: true,
             value: v,
         },
-        Number::Malformed(_) => Held {
-            present: false,
-            value: 0,
-        },
-    }
-}
-
-fn no_band() -> BandHeld
-    ensures { λ r. ⌜ r ≡ noBand ⌝ }
-{
-    BandHeld {
-        present: false,
-        width: 0,
-        offset: 0,
+        Number::Malformed(_) => value::no_number(),
     }
 }
 
 // BW__ sets the offset to 0.
 pub(crate) fn centred(read: Number) -> BandHeld
-    ensures { λ r. ⌜ r ≡ centred (numberSaid read) ⌝ }
+    ensures { λ r. ⌜ r ≡ orElse noBand centred (numberSaid read) ⌝ }
 {
     match read {
         Number::Is(v) => BandHeld {
@@ -53,12 +42,12 @@ pub(crate) fn centred(read: Number) -> BandHeld
             width: v,
             offset: 0,
         },
-        Number::Malformed(_) => no_band(),
+        Number::Malformed(_) => value::no_band(),
     }
 }
 
 pub(crate) fn banded(read: BandRead) -> BandHeld
-    ensures { λ r. ⌜ r ≡ banded (bandSaid read) ⌝ }
+    ensures { λ r. ⌜ r ≡ orElse noBand banded (bandSaid read) ⌝ }
 {
     match read {
         BandRead::Spans(b) => BandHeld {
@@ -66,7 +55,7 @@ pub(crate) fn banded(read: BandRead) -> BandHeld
             width: b.width,
             offset: b.offset,
         },
-        BandRead::Faulty(_) => no_band(),
+        BandRead::Faulty(_) => value::no_band(),
     }
 }
 
@@ -81,23 +70,20 @@ fn amount(level: Level) -> f32
 }
 
 pub(crate) fn levelled(read: LevelRead) -> LevelHeld
-    ensures { λ r. ⌜ r ≡ levelled (levelSaid read) ⌝ }
+    ensures { λ r. ⌜ r ≡ orElse noLevel levelled (levelSaid read) ⌝ }
 {
     match read {
         LevelRead::Is(level) => LevelHeld {
             present: true,
             value: amount(level),
         },
-        LevelRead::Malformed(_) => LevelHeld {
-            present: false,
-            value: 0.0,
-        },
+        LevelRead::Malformed(_) => value::no_level(),
     }
 }
 
 // A well-formed IQDC sets the start mark.
 pub(crate) fn marked(checked: Checked, mark: bool) -> bool
-    ensures { λ r. ⌜ r ≡ marked (checkedSaid checked tt) mark ⌝ }
+    ensures { λ r. ⌜ r ≡ marked (checkedSaid checked (tt {0})) mark ⌝ }
 {
     match checked {
         Checked::Good => true,

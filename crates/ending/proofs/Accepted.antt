@@ -19,7 +19,7 @@ use Rattle.effect.specs.Ready.{noState}
 use Rattle.reader.specs.Items.{items}
 use Rattle.reader.specs.Step.{Step, cursorAt, newCursor, skips, accepts, stepOf, after}
 use Rattle.reader.specs.declared.Cursor.{Cursor}
-use Rattle.reader.proofs.Laws.{unfit, step-ahead, step-skips}
+use Rattle.reader.proofs.Laws.{unfit, step-ahead, step-accepts, step-skips}
 use Rattle.reader.proofs.Theorems.{reading, reads, new-fit}
 use Rattle.samples.proofs.AtCursor.{effectOf}
 use Rattle.ending.specs.Ending.{onto, givenBy, cursorBy, stepCounted, AcceptsFirstAt, lead, fromChunk, BeginsAt}
@@ -37,7 +37,7 @@ reached p c = cursorAt p false (c .state)
 module _ (o : Order) (s : List ℕ) (p : ℕ) (h : p < length s) where
   -- a searching reader that accepts a chunk forgets its state
   pub forgets : (code size : ℕ) → shows o (drop p s) ≡ Complete code size → (a b : State) → stepOf o s (cursorAt p false a) ≡ stepOf o s (cursorAt p false b)
-  forgets code size e a b = step-ahead o s (cursorAt p false a) h refl ∙ rw e (sym (step-ahead o s (cursorAt p false b) h refl ∙ rw e))
+  forgets code size e a b = step-accepts o s (cursorAt p false a) code size h refl e ∙ sym (step-accepts o s (cursorAt p false b) code size h refl e)
 
   pub moved-as-in : (k : ℕ) (e : Cursor) → AsIn o p s (after k o s (cursorBy (onto p) e)) (drop p s) (after k o (drop p s) e)
   moved-as-in k e =
@@ -71,7 +71,7 @@ module _ (o : Order) (s : List ℕ) (c : Cursor) (p : ℕ) (f : AcceptsFirstAt o
 
   -- the first chunk is accepted there
   pub chunk-there : stepOf o s (reached p c) ≡ accepts (reached p c) (f .code) (f .size) (effectOf o (drop p s) (reached p c) (f .code) (f .size))
-  chunk-there = step-ahead o s (reached p c) inside refl ∙ rw (f .complete)
+  chunk-there = step-accepts o s (reached p c) (f .code) (f .size) inside refl (f .complete)
 
   -- a cursor that stands there is that cursor, and any other skips the stretch up to it
   stands-there : eqb (c .place) p ≡ true → c ≡ reached p c
@@ -85,7 +85,7 @@ module _ (o : Order) (s : List ℕ) (c : Cursor) (p : ℕ) (f : AcceptsFirstAt o
       let u : c .place < p = omega (arith, h .low, eqb-false (c .place) p n) in
       let g : gap o (drop (c .place) s) ≡ p - c .place = omega (arith, search-at o s (c .place) p (f .stopped) .0) in
       step-ahead o s c (omega (arith, inside)) searching-fit
-      ∙ step-skips o (drop (c .place) s) c (shows o (drop (c .place) s)) (h .before (c .place) (omega arith) u)
+      ∙ step-skips o (drop (c .place) s) c (omega (arith, length-drop (c .place) s, inside)) (h .before (c .place) (omega arith) u)
       ∙ rw g
 
   skipped-to : eqb (c .place) p ≡ false → c .place + (p - c .place) ≡ p

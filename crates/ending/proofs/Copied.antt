@@ -1,16 +1,17 @@
 -- A copy looks at what a step gives and at the bytes ahead, and at no place.
-use Prim.Native.Nat.{ℕ}
+use Prim.Native.Nat.{ℕ, _-_}
 use mathlib.Core.Path.{_≡_, refl, sym, _∙_}
 use mathlib.Core.Bool.{Bool}
-use mathlib.Core.List.{List}
-use lib.ListN.{drop}
+use mathlib.Core.List.{List, []}
+use lib.ListN.{take, drop}
 use Rattle.num.specs.Answer.{Answer, gives, refuses}
 use Rattle.num.specs.declared.Order.{Order}
 use Rattle.state.specs.declared.State.{State}
-use Rattle.reader.specs.Item.{Item, end, skipped, unfinished, chunk}
+use Rattle.reader.specs.Item.{Item}
+use Rattle.reader.proofs.Laws.{placed-chunk}
 use Rattle.reader.specs.Step.{stepOf}
 use Rattle.reader.specs.declared.Cursor.{Cursor}
-use Rattle.samples.specs.Copy.{layoutBy, layoutAt, countOf, samplesBy, samplesAt, filled}
+use Rattle.samples.specs.Copy.{layoutIn, layoutBy, layoutAt, countOf, samplesBy, samplesAt, filled}
 use Rattle.ending.specs.Ending.{onto, answerBy}
 use Rattle.ending.proofs.Accepted.{AsIn}
 
@@ -25,17 +26,11 @@ pub record SameCopies (o : Order) (s : List ℕ) (c : Cursor) (t : List ℕ) (d 
 
 layout-told : (f : ℕ → ℕ) (float : Bool) (channel : ℕ) (shown : State) (a : Answer Item) → layoutBy float channel shown (answerBy f a) ≡ layoutBy float channel shown a
 layout-told f float channel shown (refuses n) = refl
-layout-told f float channel shown (gives end) = refl
-layout-told f float channel shown (gives (skipped p n)) = refl
-layout-told f float channel shown (gives (unfinished p n)) = refl
-layout-told f float channel shown (gives (chunk p code size says)) = refl
+layout-told f float channel shown (gives i) = placed-chunk f (refuses 35) (λ place code size says. layoutIn float channel shown says code) i
 
 samples-told : (f : ℕ → ℕ) (a : Answer Item) (l : List ℕ) → samplesBy (answerBy f a) l ≡ samplesBy a l
 samples-told f (refuses n) l = refl
-samples-told f (gives end) l = refl
-samples-told f (gives (skipped p n)) l = refl
-samples-told f (gives (unfinished p n)) l = refl
-samples-told f (gives (chunk p code size says)) l = refl
+samples-told f (gives i) l = placed-chunk f [] (λ place code size says. take (size - 8) (drop 20 l)) i
 
 module _ (o : Order) (p : ℕ) (s : List ℕ) (c : Cursor) (l : List ℕ) (e : Cursor) (a : AsIn o p s c l e) where
   layout-as : (float : Bool) (channel : ℕ) → layoutAt float o s c channel ≡ layoutAt float o l e channel

@@ -9,8 +9,11 @@ use lib.ListN.{length, drop, length-drop}
 use borrow.Author.Tests.{lt-ltb, ltb-true, ltb-false}
 use Rattle.num.specs.declared.Order.{Order}
 use Rattle.frame.specs.Place.{shows, gap, stops, searchFrom}
-use Rattle.frame.specs.declared.At.{At}
-use Rattle.frame.specs.declared.At.the-variants.{NoSync, Bad, Unfinished, Complete}
+use Rattle.frame.specs.Ahead.{aheadOf}
+use Rattle.frame.specs.declared.Ahead.{Ahead}
+use Rattle.frame.specs.declared.Ahead.the-variants.{End, Stretch, Cut, Chunk}
+use Rattle.frame.specs.declared.At.the-variants.{Complete}
+use Rattle.frame.proofs.Looks.{is-chunk, is-stretch, is-end}
 use Rattle.frame.specs.declared.Found.the-variants.{Place}
 use Rattle.frame.proofs.Laws.{gap-stop, search-here, search-at}
 use Rattle.frame.proofs.Frames.{gap-le}
@@ -36,24 +39,27 @@ module _ (o : Order) (s : List ℕ) (p : ℕ) where
   end-none (suc f) d e k b = rw (step-end o s d e k) at b
 
   -- where a search stops, the first chunk stands, or none comes
-  here-by : (f : ℕ) (d : Cursor) (a : At) → shows o (drop (d .place) s) ≡ a → stops a ≡ true → d .«in_step» ≡ false → d .place < length s →
+  here-by : (f : ℕ) (d : Cursor) (a : Ahead) → aheadOf o (drop (d .place) s) ≡ a → stops (shows o (drop (d .place) s)) ≡ true → d .«in_step» ≡ false → d .place < length s →
       BeginsAt p (fromChunk (reading (suc f) o s d)) → Here o s (d .place) p
   unfolding reading fromChunk
-  here-by f d (Complete code size) e t k h b =
+  here-by f d (Chunk code size) e t k h b =
       let u : unfit d ≡ false = rw k in
-      record { code = code; size = size; complete = e; same = rw (step-ahead o s d h u, e) at b }
-  here-by f d Unfinished e t k h b =
+      record { code = code; size = size; complete = is-chunk o (drop (d .place) s) code size e; same = rw (step-ahead o s d (omega arith) u, e) at b }
+  here-by f d Cut e t k h b =
       let u : unfit d ≡ false = rw k in
       let n = length-drop (d .place) s in
-      absurd (end-none f (cursorAt (d .place + length (drop (d .place) s)) (d .«in_step») (d .state)) (omega arith) u (rw (step-ahead o s d h u, e) at b))
-  here-by f d NoSync e t k h b = let z : _≡_ {A = ℕ} 0 1 = cc in absurd (omega arith)
-  here-by f d Bad e t k h b = let z : _≡_ {A = ℕ} 0 1 = cc in absurd (omega arith)
+      absurd (end-none f (cursorAt (d .place + length (drop (d .place) s)) (d .«in_step») (d .state)) (omega arith) u (rw (step-ahead o s d (omega arith) u, e) at b))
+  here-by f d Stretch e t k h b =
+      let n = is-stretch o (drop (d .place) s) e in
+      let z : _≡_ {A = ℕ} 0 1 = cc in
+      absurd (omega arith)
+  here-by f d End e t k h b = absurd (omega (arith, is-end o (drop (d .place) s) e, length-drop (d .place) s))
 
   here : (f : ℕ) (d : Cursor) → stops (shows o (drop (d .place) s)) ≡ true → d .«in_step» ≡ false → d .place < length s →
       BeginsAt p (fromChunk (reading f o s d)) → Here o s (d .place) p
   unfolding reading fromChunk
   here zero d t k h b = absurd b
-  here (suc f) d t k h b = here-by f d (shows o (drop (d .place) s)) refl t k h b
+  here (suc f) d t k h b = here-by f d (aheadOf o (drop (d .place) s)) refl t k h b
 
 module _ (o : Order) (s : List ℕ) (c : Cursor) (k : c .«in_step» ≡ false) where
   found : (q : ℕ) → c .place + gap o (drop (c .place) s) ≡ q → q < length s → searchFrom o s (c .place) ≡ Place q
@@ -83,7 +89,7 @@ module _ (o : Order) (s : List ℕ) (c : Cursor) (k : c .«in_step» ≡ false) 
   first-by p false t h b =
       let u : unfit c ≡ false = rw k in
       let g = gap o (drop (c .place) s) in
-      let e : stepOf o s c ≡ skips c g = step-ahead o s c h u ∙ step-skips o (drop (c .place) s) c (shows o (drop (c .place) s)) t in
+      let e : stepOf o s c ≡ skips c g = step-ahead o s c (omega arith) u ∙ step-skips o (drop (c .place) s) c (simp length-drop (omega arith)) t in
       skipped-by p (ltb (c .place + g) (length s)) refl (omega arith) (rw e at b)
 
   in-by : (p : ℕ) (b : Bool) → ltb (c .place) (length s) ≡ b → c .place ≤ length s → BeginsAt p (fromChunk (reading (suc (length s)) o s c)) → AcceptsFirstAt o s c p
@@ -102,5 +108,5 @@ pub lost-first : (o : Order) (s : List ℕ) (c : Cursor) (p code size : ℕ) →
 lost-first o s c p code size u h n w e =
     let a = search-at o s (c .place) p w in
     let t : stops (shows o (drop p s)) ≡ true = rw e in
-    let i : stepOf o s c ≡ skips c (gap o (drop (c .place) s)) = step-ahead o s c h u ∙ step-skips o (drop (c .place) s) c (shows o (drop (c .place) s)) n in
+    let i : stepOf o s c ≡ skips c (gap o (drop (c .place) s)) = step-ahead o s c (omega arith) u ∙ step-skips o (drop (c .place) s) c (simp length-drop (omega arith)) n in
     rw (i, a .0) (record { searching = refl; stopped = search-here o s p p (a .1) t refl; code = code; size = size; complete = e })

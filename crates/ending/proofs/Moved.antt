@@ -11,17 +11,19 @@ use borrow.Author.Tests.{lt-ltb, le-ltb, ltb-true, ltb-false}
 use Rattle.num.specs.Answer.{Answer, gives, refuses}
 use Rattle.num.specs.Choice.{pick, both}
 use Rattle.num.specs.declared.Order.{Order}
-use Rattle.frame.specs.Place.{shows, gap}
-use Rattle.frame.specs.declared.At.{At}
-use Rattle.frame.specs.declared.At.the-variants.{NoSync, Bad, Unfinished, Complete}
+use Rattle.frame.specs.Place.{gap}
+use Rattle.frame.specs.Ahead.{aheadOf}
+use Rattle.frame.specs.declared.Ahead.{Ahead}
+use Rattle.frame.specs.declared.Ahead.the-variants.{End, Stretch, Cut, Chunk}
 use Rattle.state.specs.Good.{goodState}
 use Rattle.state.specs.declared.State.{State}
-use Rattle.reader.specs.Item.{Item, end, skipped, unfinished, chunk}
+use Rattle.reader.specs.Item.{Item, isEnd, placedBy}
 use Rattle.reader.specs.Items.{Given}
-use Rattle.reader.specs.Step.{Step, refused, stepBy, stepAhead, stepOf, after}
+use Rattle.reader.specs.Step.{Step, refused, stepBy, stepOf, after}
 use Rattle.reader.specs.declared.Cursor.{Cursor}
+use Rattle.reader.proofs.Laws.{placed-end, placed-back}
 use Rattle.reader.proofs.Theorems.{told, reading}
-use Rattle.ending.specs.Ending.{since, onto, itemBy, answerBy, givenBy, cursorBy, stepCounted}
+use Rattle.ending.specs.Ending.{since, onto, answerBy, givenBy, cursorBy, stepCounted}
 
 -- ---- one step
 
@@ -30,24 +32,20 @@ past-by p m n k true e h t = lt-ltb n (p + k) (omega (arith, ltb-true m k t))
 past-by p m n k false e h t = le-ltb n (p + k) (omega (arith, ltb-false m k t))
 
 module _ (o : Order) (p : ℕ) (c : Cursor) where
-  at-moved : (l : List ℕ) (a : At) → stepBy o l (cursorBy (onto p) c) a ≡ stepCounted (onto p) (stepBy o l c a)
-  at-moved l (Complete code size) =
+  at-moved : (l : List ℕ) (a : Ahead) → stepBy o l (cursorBy (onto p) c) a ≡ stepCounted (onto p) (stepBy o l c a)
+  at-moved l End = refl
+  at-moved l (Chunk code size) =
       let q : p + c .place + 12 + size ≡ p + (c .place + 12 + size) = omega arith in
       rw q
-  at-moved l Unfinished = let q : p + c .place + length l ≡ p + (c .place + length l) = omega arith in rw q
-  at-moved l NoSync = let q : p + c .place + gap o l ≡ p + (c .place + gap o l) = omega arith in rw q
-  at-moved l Bad = let q : p + c .place + gap o l ≡ p + (c .place + gap o l) = omega arith in rw q
-
-  ahead-moved : (l : List ℕ) → stepAhead o l (cursorBy (onto p) c) ≡ stepCounted (onto p) (stepAhead o l c)
-  ahead-moved [] = refl
-  ahead-moved (x ∷ l) = at-moved (x ∷ l) (shows o (x ∷ l))
+  at-moved l Cut = let q : p + c .place + length l ≡ p + (c .place + length l) = omega arith in rw q
+  at-moved l Stretch = let q : p + c .place + gap o l ≡ p + (c .place + gap o l) = omega arith in rw q
 
   tests-moved : (l : List ℕ) (a b : Bool) →
-      pick a (refused 2 (cursorBy (onto p) c)) (pick b (refused 3 (cursorBy (onto p) c)) (stepAhead o l (cursorBy (onto p) c)))
-      ≡ stepCounted (onto p) (pick a (refused 2 c) (pick b (refused 3 c) (stepAhead o l c)))
+      pick a (refused 2 (cursorBy (onto p) c)) (pick b (refused 3 (cursorBy (onto p) c)) (stepBy o l (cursorBy (onto p) c) (aheadOf o l)))
+      ≡ stepCounted (onto p) (pick a (refused 2 c) (pick b (refused 3 c) (stepBy o l c (aheadOf o l))))
   tests-moved l true b = refl
   tests-moved l false true = refl
-  tests-moved l false false = ahead-moved l
+  tests-moved l false false = at-moved l (aheadOf o l)
 
   pub step-moved : (s : List ℕ) → p ≤ length s → stepOf o s (cursorBy (onto p) c) ≡ stepCounted (onto p) (stepOf o (drop p s) c)
   unfolding stepOf
@@ -58,12 +56,13 @@ module _ (o : Order) (p : ℕ) (c : Cursor) where
 
 -- ---- and all steps after it
 
+pick-moved : (f : ℕ → ℕ) (b : Bool) (g : Given) (rest : List Given) → pick b [] (givenBy f g ∷ map (givenBy f) rest) ≡ map (givenBy f) (pick b [] (g ∷ rest))
+pick-moved f true g rest = refl
+pick-moved f false g rest = refl
+
 pub told-moved : (f : ℕ → ℕ) (a : Answer Item) (shown : State) (rest : List Given) → told (answerBy f a) shown (map (givenBy f) rest) ≡ map (givenBy f) (told a shown rest)
 told-moved f (refuses n) shown rest = refl
-told-moved f (gives end) shown rest = refl
-told-moved f (gives (skipped q n)) shown rest = refl
-told-moved f (gives (unfinished q n)) shown rest = refl
-told-moved f (gives (chunk q code size says)) shown rest = refl
+told-moved f (gives i) shown rest = rw (placed-end f i) (pick-moved f (isEnd i) (record { item = i; shown = shown }) rest)
 
 module _ (o : Order) (p : ℕ) (s : List ℕ) (h : p ≤ length s) where
   pub reading-moved : (f : ℕ) (c : Cursor) → reading f o s (cursorBy (onto p) c) ≡ map (givenBy (onto p)) (reading f o (drop p s) c)
@@ -84,11 +83,8 @@ module _ (p : ℕ) where
   back : (k : ℕ) → since p (onto p k) ≡ k
   back k = omega arith
 
-  item-back : (i : Item) → itemBy (since p) (itemBy (onto p) i) ≡ i
-  item-back end = refl
-  item-back (skipped k n) = rw (back k)
-  item-back (unfinished k n) = rw (back k)
-  item-back (chunk k code size says) = rw (back k)
+  item-back : (i : Item) → placedBy (since p) (placedBy (onto p) i) ≡ i
+  item-back i = placed-back (since p) (onto p) back i
 
   answer-back : (a : Answer Item) → answerBy (since p) (answerBy (onto p) a) ≡ a
   answer-back (gives i) = ap gives (item-back i)

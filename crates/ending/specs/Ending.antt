@@ -11,7 +11,7 @@ use Rattle.num.specs.declared.Order.{Order}
 use Rattle.frame.specs.Place.{shows, searchFrom}
 use Rattle.frame.specs.declared.At.the-variants.{Complete}
 use Rattle.frame.specs.declared.Found.the-variants.{Place}
-use Rattle.reader.specs.Item.{Item, end, skipped, unfinished, chunk}
+use Rattle.reader.specs.Item.{Item, ofChunk, isChunk, placedBy}
 use Rattle.reader.specs.Items.{Given}
 use Rattle.reader.specs.Step.{Step, cursorAt}
 use Rattle.reader.specs.declared.Cursor.{Cursor}
@@ -23,19 +23,13 @@ since start place = place - start
 abbrev pub onto : ℕ → ℕ → ℕ
 onto start place = start + place
 
--- an item, an answer, an item with what it shows, a cursor and a step, their places counted anew
-abbrev pub itemBy : (ℕ → ℕ) → Item → Item
-itemBy f end = end
-itemBy f (skipped place n) = skipped (f place) n
-itemBy f (unfinished place n) = unfinished (f place) n
-itemBy f (chunk place code size says) = chunk (f place) code size says
-
+-- an answer, an item with what it shows, a cursor and a step, their places counted anew
 abbrev pub answerBy : (ℕ → ℕ) → Answer Item → Answer Item
-answerBy f (gives i) = gives (itemBy f i)
+answerBy f (gives i) = gives (placedBy f i)
 answerBy f (refuses n) = refuses n
 
 abbrev pub givenBy : (ℕ → ℕ) → Given → Given
-givenBy f g = record { item = itemBy f (g .item); shown = g .shown }
+givenBy f g = record { item = placedBy f (g .item); shown = g .shown }
 
 abbrev pub cursorBy : (ℕ → ℕ) → Cursor → Cursor
 cursorBy f c = cursorAt (f (c .place)) (c .«in_step») (c .state)
@@ -56,22 +50,13 @@ abbrev pub lead : ℕ → Cursor → ℕ
 lead p c = pick (eqb (c .place) p) 0 1
 
 -- the items from the first chunk on
-abbrev pub isChunk : Item → Bool
-isChunk end = false
-isChunk (skipped place n) = false
-isChunk (unfinished place n) = false
-isChunk (chunk place code size says) = true
-
 unfoldable pub fromChunk : List Given → List Given
 fromChunk [] = []
 fromChunk (g ∷ rest) = pick (isChunk (g .item)) (g ∷ rest) (fromChunk rest)
 
 -- the first of some items is a chunk at p
 abbrev pub ChunkAt : ℕ → Item → Type 0
-ChunkAt p end = ⊥
-ChunkAt p (skipped place n) = ⊥
-ChunkAt p (unfinished place n) = ⊥
-ChunkAt p (chunk place code size says) = place ≡ p
+ChunkAt p i = ofChunk ⊥ (λ place code size says. place ≡ p) i
 
 abbrev pub BeginsAt : ℕ → List Given → Type 0
 BeginsAt p [] = ⊥

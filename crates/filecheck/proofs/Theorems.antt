@@ -11,8 +11,10 @@ use Rattle.num.specs.Choice.{pick}
 use Rattle.num.specs.declared.Order.{Order}
 use Rattle.num.specs.declared.Order.the-variants.{Big}
 use Rattle.frame.specs.Place.{starts, shows, gap}
-use Rattle.frame.specs.Frames.{Frame, chunk, skipped, unfinished, chunkBytes, framesBy, frames}
+use Rattle.frame.specs.Frames.{Frame, chunkBytes, framesBy, frames}
+use Rattle.frame.proofs.Looks.{of-chunk}
 use Rattle.body.specs.Kind.{known, kindIn, kindOf}
+use Rattle.body.specs.Table.{shaped}
 use Rattle.body.specs.Verdict.{verdict}
 use Rattle.reader.specs.Items.{items}
 use Rattle.reader.proofs.Theorems.{items-length}
@@ -55,14 +57,16 @@ end-good false n place m e = let z : _≡_ {A = ℕ} 0 1 = cc in absurd (omega a
 from-good : (o : Order) (n place : ℕ) (ended : Bool) (fs : List Frame) (m : ℕ) → fileFrom o n place ended fs ≡ good m → m ≡ n + length fs
 unfolding fileFrom
 from-good o n place ended [] m e = omega (arith, end-good ended n place m e)
-from-good o n place ended (chunk code body ∷ rest) m e =
-    onward-good place m (passes (partOf (kindOf code)) ended (wellFormed o code body))
+from-good o n place ended (f ∷ rest) m e =
+    of-chunk (λ (x : FileAnswer). x ≡ good m → m ≡ n + length (f ∷ rest)) (refused 44 place)
+    (λ code body. onward place (passes (partOf (kindOf code)) ended (wellFormed o code body)) (λ next. fileFrom o (n + 1) (place + 12 + length body) next rest))
+    f
+    (λ q. let z : _≡_ {A = ℕ} 0 1 = cc in absurd (omega arith))
+    (λ code body. onward-good place m (passes (partOf (kindOf code)) ended (wellFormed o code body))
     (λ (next : Bool). fileFrom o (n + 1) (place + 12 + length body) next rest)
-    (n + length (chunk code body ∷ rest))
-    (λ next g. omega (arith, from-good o (n + 1) (place + 12 + length body) next rest m g))
+    (n + length (f ∷ rest))
+    (λ next g. omega (arith, from-good o (n + 1) (place + 12 + length body) next rest m g)))
     e
-from-good o n place ended (skipped bytes ∷ rest) m e = let z : _≡_ {A = ℕ} 0 1 = cc in absurd (omega arith)
-from-good o n place ended (unfinished bytes ∷ rest) m e = let z : _≡_ {A = ℕ} 0 1 = cc in absurd (omega arith)
 
 begun-good : (o : Order) (b : Bool) (place : ℕ) (rest : List Frame) (m : ℕ) → pick b (fileFrom o 1 place false rest) (refused 41 0) ≡ good m → m ≡ 1 + length rest
 begun-good o true place rest m e = from-good o 1 place false rest m e
@@ -70,10 +74,13 @@ begun-good o false place rest m e = let z : _≡_ {A = ℕ} 0 1 = cc in absurd (
 
 by-good : (o : Order) (fs : List Frame) (m : ℕ) → fileBy o fs ≡ good m → m ≡ length fs
 by-good o [] m e = let z : _≡_ {A = ℕ} 0 1 = cc in absurd (omega arith)
-by-good o (chunk code body ∷ rest) m e =
-    omega (arith, begun-good o (begins (partOf (kindOf code)) (wellFormed o code body)) (12 + length body) rest m e)
-by-good o (skipped bytes ∷ rest) m e = let z : _≡_ {A = ℕ} 0 1 = cc in absurd (omega arith)
-by-good o (unfinished bytes ∷ rest) m e = let z : _≡_ {A = ℕ} 0 1 = cc in absurd (omega arith)
+by-good o (f ∷ rest) m e =
+    of-chunk (λ (x : FileAnswer). x ≡ good m → m ≡ length (f ∷ rest)) (refused 41 0)
+    (λ code body. pick (begins (partOf (kindOf code)) (wellFormed o code body)) (fileFrom o 1 (12 + length body) false rest) (refused 41 0))
+    f
+    (λ q. let z : _≡_ {A = ℕ} 0 1 = cc in absurd (omega arith))
+    (λ code body q. omega (arith, begun-good o (begins (partOf (kindOf code)) (wellFormed o code body)) (12 + length body) rest m q))
+    e
 
 pub good-counts : (o : Order) (s : List ℕ) (m : ℕ) → fileOf o s ≡ good m → m ≡ length (items o s)
 good-counts o s m e = by-good o (frames o s) m e ∙ sym (items-length o 0 false _ (frames o s))
@@ -114,5 +121,5 @@ table =
     ∷ []
 
 pub small : map (λ (c : Case). fileOf Big (c .bytes)) table ≡ map (λ (c : Case). c .says) table
-unfolding table sofh eofh longEofh iqdc emptySsnc fileFrom framesBy gap shows starts kindOf kindIn known verdict
+unfolding table sofh eofh longEofh iqdc emptySsnc fileFrom framesBy gap shows starts kindOf kindIn known verdict partOf shaped
 small = refl

@@ -2,15 +2,19 @@
 use Prim.Native.Nat.{ℕ, _+_}
 use mathlib.Core.Bool.{Bool, true, false}
 use mathlib.Core.List.{List, [], _∷_}
+use lib.Dec.{eqb}
 use lib.ListN.{length, drop}
 use Rattle.num.specs.Answer.{Answer, gives, refuses}
 use Rattle.num.specs.Choice.{pick, either}
 use Rattle.num.specs.declared.Order.{Order}
-use Rattle.frame.specs.Frames.{Frame, chunk, skipped, unfinished, frames}
-use Rattle.body.specs.Kind.{kindOf}
+use Rattle.frame.specs.Frames.{Frame, ofChunk, frames}
+use Rattle.body.specs.Kind.{codeOf, kindOf}
+use Rattle.body.specs.Table.{shaped}
 use Rattle.body.specs.Verdict.{verdict}
 use Rattle.body.specs.declared.kind.Kind.{Kind}
-use Rattle.body.specs.declared.kind.Kind.the-variants.{SSNC, SSNR, SFNC, SFNR, GSNC, GFNC, SIQP, SR, BW, GCBW, BWOF, CF, DBFS, DBTG, FFS, GIQP, GCF, GRG, SOFH, EOFH, IQDC, TEXT, Unknown}
+use Rattle.body.specs.declared.kind.Kind.the-variants.{SOFH, EOFH}
+use Rattle.body.specs.declared.data.Shaped.{Shaped}
+use Rattle.body.specs.declared.data.Shaped.the-variants.{Samples, NoSamples}
 use Rattle.filecheck.specs.declared.FileChecked.{FileChecked}
 use Rattle.filecheck.specs.declared.FileChecked.the-variants.{Good, NoHeader, HeaderNotEnded, SecondHeader, NotAChunk}
 use Rattle.filecheck.specs.declared.Part.{Part}
@@ -31,30 +35,12 @@ fileSaid (SecondHeader place) = refused 43 place
 fileSaid (NotAChunk place) = refused 44 place
 
 -- the part that a kind has in a file: data, a header (SOFH), a header's end (EOFH), or another
-abbrev pub partOf : Kind → Part
-partOf SSNC = Data
-partOf SSNR = Data
-partOf SFNC = Data
-partOf SFNR = Data
-partOf GSNC = Data
-partOf GFNC = Data
-partOf SIQP = Other
-partOf SR = Other
-partOf BW = Other
-partOf GCBW = Other
-partOf BWOF = Other
-partOf CF = Other
-partOf DBFS = Other
-partOf DBTG = Other
-partOf FFS = Other
-partOf GIQP = Other
-partOf GCF = Other
-partOf GRG = Other
-partOf SOFH = Header
-partOf EOFH = HeaderEnd
-partOf IQDC = Other
-partOf TEXT = Other
-partOf Unknown = Other
+abbrev pub partBy : Shaped → ℕ → Part
+partBy (Samples shape) code = Data
+partBy NoSamples code = pick (eqb code (codeOf SOFH)) Header (pick (eqb code (codeOf EOFH)) HeaderEnd Other)
+
+unfoldable pub partOf : Kind → Part
+partOf k = partBy (shaped k) (codeOf k)
 
 -- a verdict finds nothing wrong
 abbrev pub isGood : Answer (Unit {0}) → Bool
@@ -90,11 +76,12 @@ onward place (refuses number) rest = refused number place
 -- the end of the file before the header's end with 42.
 unfoldable pub fileFrom : Order → ℕ → ℕ → Bool → List Frame → FileAnswer
 fileFrom o n place ended [] = pick ended (good n) (refused 42 place)
-fileFrom o n place ended (chunk code body ∷ rest) =
+fileFrom o n place ended (f ∷ rest) =
+    ofChunk (refused 44 place)
+    (λ code body.
     onward place (passes (partOf (kindOf code)) ended (wellFormed o code body))
-    (λ next. fileFrom o (n + 1) (place + 12 + length body) next rest)
-fileFrom o n place ended (skipped bytes ∷ rest) = refused 44 place
-fileFrom o n place ended (unfinished bytes ∷ rest) = refused 44 place
+    (λ next. fileFrom o (n + 1) (place + 12 + length body) next rest))
+    f
 
 -- the same, said of the bytes of the file
 abbrev pub fileAhead : Order → List ℕ → ℕ → ℕ → Bool → FileAnswer
@@ -103,10 +90,11 @@ fileAhead o s n place ended = fileFrom o n place ended (frames o (drop place s))
 -- a file that does not begin with a chunk that is a well-formed header is refused with 41, an empty file too
 abbrev pub fileBy : Order → List Frame → FileAnswer
 fileBy o [] = refused 41 0
-fileBy o (chunk code body ∷ rest) =
-    pick (begins (partOf (kindOf code)) (wellFormed o code body)) (fileFrom o 1 (12 + length body) false rest) (refused 41 0)
-fileBy o (skipped bytes ∷ rest) = refused 41 0
-fileBy o (unfinished bytes ∷ rest) = refused 41 0
+fileBy o (f ∷ rest) =
+    ofChunk (refused 41 0)
+    (λ code body.
+    pick (begins (partOf (kindOf code)) (wellFormed o code body)) (fileFrom o 1 (12 + length body) false rest) (refused 41 0))
+    f
 
 -- what the check of a file says
 abbrev pub fileOf : Order → List ℕ → FileAnswer

@@ -7,7 +7,7 @@ ghost use Rattle.filecheck.specs.File.{fileSaid, partOf, isGood, fileAhe
 ghost use Rattle.filecheck.specs.Turn.{turnSaid, forward, Turned};
 use body::fault::Checked;
 use body::kind::Kind;
-use frame::At;
+use frame::Ahead;
 use num::Order;
 
 // What the check of a file says.
@@ -64,7 +64,7 @@ fn well_formed(order: Order, kind: Kind, body: &[u8]) -> bool
 fn begin(order: Order, s: &[u8]) -> Turn
     ensures { λ r. ⌜ (turnSaid order (now (s .entry)) 0 r ≡ fileOf order (now (s .entry))) × forward 0 (length (now (s .entry))) r ⌝ }
 {
-    let At::Complete { code, size } = frame::look(order, s, 0) else {
+    let Ahead::Chunk { code, size } = frame::ahead_of(order, s, 0) else {
         return Turn::Stops(FileChecked::NoHeader);
     };
     let to = 12 + size;
@@ -84,7 +84,7 @@ fn next(order: Order, s: &[u8], place: usize, ended: bool) -> Turn
     requires { ⌜ place < length (now s) ⌝ }
     ensures { λ r. ⌜ Turned order (now (s .entry)) place ended r ⌝ }
 {
-    let At::Complete { code, size } = frame::look(order, s, place) else {
+    let Ahead::Chunk { code, size } = frame::ahead_of(order, s, place) else {
         return Turn::Stops(FileChecked::NotAChunk(place));
     };
     let from = place + 12;

@@ -1,4 +1,5 @@
 pub mod Laws
 pub mod Free
+pub mod Looks
 pub mod Frames
 pub mod Theorems

@@ -16,6 +16,12 @@ pub data Frame : Type 0 where
   -- an end that breaks off, by its bytes
   unfinished : List ℕ → Frame
 
+-- what is made of a chunk, by its type and its body; of every other frame the same is made
+abbrev pub ofChunk {ℓ} : {A : Type ℓ} → A → (ℕ → List ℕ → A) → Frame → A
+ofChunk other f (chunk type body) = f type body
+ofChunk other f (skipped bytes) = other
+ofChunk other f (unfinished bytes) = other
+
 -- a chunk as it stands in a stream: sync word, type, size, body
 abbrev pub chunkBytes : Order → ℕ → List ℕ → List ℕ
 chunkBytes o type body = syncBytes o ++ (bytesOf o 4 type ++ (bytesOf o 4 (length body) ++ body))

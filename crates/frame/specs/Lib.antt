@@ -1,3 +1,4 @@
 pub mod Place
+pub mod Ahead
 pub mod Frames
 pub mod Free

@@ -5,6 +5,7 @@ ghost use Prim.Native.Nat.{_+_, _^_, _≤_, _<_};
 ghost use lib.Dec.{eqb};
 ghost use lib.ListN.{length, drop};
 ghost use Rattle.num.specs.Choice.{pick};
+ghost use Rattle.frame.specs.Ahead.{aheadOf};
 ghost use Rattle.frame.specs.Free.{Free};
 ghost use Rattle.frame.specs.Place.{syncBytes, starts, goodSize, shows, searchFrom, orderOf, orderSaid};
 use num::Order;
@@ -27,6 +28,17 @@ pub enum At {
     Bad,
     Unfinished,
     Complete { code: u32, size: usize },
+}
+
+// What is ahead of a place.
+pub enum Ahead {
+    // No byte.
+    End,
+    // Bytes that belong to no chunk: no sync word stands there, or a bad header.
+    Stretch,
+    // A chunk that breaks off at the end of the stream.
+    Cut,
+    Chunk { code: u32, size: usize },
 }
 
 // The place where a search stopped, or that there was none.
@@ -84,6 +96,20 @@ pub fn look(order: Order, s: &[u8], place: usize) -> At
     headed(order, s, place)
 }
 
+// What is ahead of a place; the end, at the end and past it. Whoever goes through a stream asks this at each place.
+pub fn ahead_of(order: Order, s: &[u8], place: usize) -> Ahead
+    ensures { λ r. ⌜ r ≡ aheadOf order (drop place (now (s .entry))) ⌝ }
+{
+    if s.len() <= place {
+        return Ahead::End;
+    }
+    match look(order, s, place) {
+        At::Complete { code, size } => Ahead::Chunk { code, size },
+        At::Unfinished => Ahead::Cut,
+        At::NoSync | At::Bad => Ahead::Stretch,
+    }
+}
+
 // Whether no place of the n from p on has the bytes a and b in front. The loop has no early way out, so that many bytes are
 // compared at a time.
 fn free_run(s: &[u8], p: usize, n: usize, a: u8, b: u8) -> bool
@@ -131,7 +157,7 @@ fn near(s: &[u8], from: usize, to: usize, a: u8, b: u8) -> usize
 }
 
 // So many places on, or the end where it is nearer.
-fn ahead(from: usize, end: usize, places: usize) -> usize
+fn further(from: usize, end: usize, places: usize) -> usize
     requires { ⌜ from ≤ end ⌝ }
     ensures { λ r. ⌜ (from ≤ r) × (r ≤ end) ⌝ }
 {
@@ -163,7 +189,7 @@ fn pass(s: &[u8], from: usize, a: u8, b: u8) -> usize
     requires { ⌜ from < length (now s) ⌝ }
     ensures { λ r. ⌜ (from ≤ r) × (r < length (now (s .entry))) × Free (now (s .entry)) a b from r ⌝ }
 {
-    let to = ahead(from, s.len() - 1, 16);
+    let to = further(from, s.len() - 1, 16);
     let p = near(s, from, to, a, b);
     if p < to {
         return p;

@@ -1,23 +1,26 @@
 -- Laws of a step, by what stands at the cursor's place.
-use Prim.Native.Nat.{ℕ, suc, _+_, _-_, _≤_, _<_}
+use Prim.Native.Nat.{ℕ, _+_, _-_, _≤_, _<_}
 use mathlib.Core.Path.{_≡_, refl, ap, _∙_}
 use mathlib.Core.Bool.{Bool, true, false, not}
-use mathlib.Core.List.{List, _∷_}
+use mathlib.Core.List.{List}
 use native.Mathlib.Omega.{arith}
-use lib.ListN.{length, getD, take, drop, length-drop}
-use lib.Seq.{drop-cons, drop-drop, drop-length, length-take-le}
+use lib.ListN.{length, take, drop, length-drop}
+use lib.Seq.{drop-drop, drop-length, length-take-le}
 use borrow.Author.Tests.{lt-ltb, le-ltb}
 use Rattle.num.specs.Answer.{gives}
 use Rattle.num.specs.Choice.{both}
 use Rattle.num.specs.declared.Order.{Order}
 use Rattle.frame.specs.Place.{shows, stops, gap}
-use Rattle.frame.specs.declared.At.{At}
-use Rattle.frame.specs.declared.At.the-variants.{NoSync, Bad, Unfinished, Complete}
+use Rattle.frame.specs.Ahead.{aheadOf}
+use Rattle.frame.specs.declared.At.the-variants.{Complete}
+use Rattle.frame.specs.declared.Ahead.the-variants.{Chunk}
+use Rattle.frame.proofs.Looks.{ahead-at, passed-by}
 use Rattle.frame.proofs.Frames.{complete}
 use Rattle.state.specs.Good.{goodState}
 use Rattle.effect.specs.Ready.{noState}
-use Rattle.reader.specs.Item.{end, itemSaid}
-use Rattle.reader.specs.Step.{refused, skips, stepBy, stepAhead, stepOf}
+use Rattle.effect.specs.Says.{Says}
+use Rattle.reader.specs.Item.{Item, end, skipped, unfinished, chunk, ofChunk, isEnd, placedBy, itemSaid}
+use Rattle.reader.specs.Step.{refused, skips, stepBy, stepOf}
 use Rattle.reader.specs.Took.{Took}
 use Rattle.reader.specs.declared.Cursor.{Cursor}
 use Rattle.reader.specs.declared.Item as declared
@@ -36,25 +39,23 @@ module _ (o : Order) (s : List ℕ) (c : Cursor) where
   unfolding stepOf
   step-unfit h k = rw (le-ltb (length s) (c .place) h, k)
 
-  pub step-fit : c .place ≤ length s → unfit c ≡ false → stepOf o s c ≡ stepAhead o (drop (c .place) s) c
+  pub step-ahead : c .place ≤ length s → unfit c ≡ false → stepOf o s c ≡ stepBy o (drop (c .place) s) c (aheadOf o (drop (c .place) s))
   unfolding stepOf
-  step-fit h k = rw (le-ltb (length s) (c .place) h, k)
+  step-ahead h k = rw (le-ltb (length s) (c .place) h, k)
 
   pub step-end : c .place ≡ length s → unfit c ≡ false → stepOf o s c ≡ record { item = gives end; shown = noState; cursor = c }
-  step-end e k = step-fit (omega arith) k ∙ rw (e, drop-length s)
+  step-end e k = step-ahead (omega arith) k ∙ rw (e, drop-length s)
 
-  ahead-by : (x : ℕ) (l : List ℕ) → drop (c .place) s ≡ x ∷ l → stepAhead o (drop (c .place) s) c ≡ stepBy o (drop (c .place) s) c (shows o (drop (c .place) s))
-  ahead-by x l e = rw e
-
-  pub step-ahead : c .place < length s → unfit c ≡ false → stepOf o s c ≡ stepBy o (drop (c .place) s) c (shows o (drop (c .place) s))
-  step-ahead h k = step-fit (omega arith) k ∙ ahead-by (getD s (c .place) 0) (drop (suc (c .place)) s) (drop-cons s (c .place) 0 h)
+-- a complete chunk is accepted
+pub step-accepts : (o : Order) (s : List ℕ) (c : Cursor) (code size : ℕ) → c .place < length s → unfit c ≡ false → shows o (drop (c .place) s) ≡ Complete code size →
+    stepOf o s c ≡ stepBy o (drop (c .place) s) c (Chunk code size)
+step-accepts o s c code size h k e =
+    let n : 0 < length (drop (c .place) s) = simp length-drop (omega arith) in
+    step-ahead o s c (omega arith) k ∙ rw (ahead-at o (drop (c .place) s) n, e)
 
 -- where a search does not stop, the stretch up to where it does is skipped
-pub step-skips : (o : Order) (l : List ℕ) (c : Cursor) (a : At) → stops a ≡ false → stepBy o l c a ≡ skips c (gap o l)
-step-skips o l c NoSync h = refl
-step-skips o l c Bad h = refl
-step-skips o l c Unfinished h = let z : _≡_ {A = ℕ} 0 1 = cc in absurd (omega arith)
-step-skips o l c (Complete code size) h = let z : _≡_ {A = ℕ} 0 1 = cc in absurd (omega arith)
+pub step-skips : (o : Order) (l : List ℕ) (c : Cursor) → 0 < length l → stops (shows o l) ≡ false → stepBy o l c (aheadOf o l) ≡ skips c (gap o l)
+step-skips o l c n h = rw (ahead-at o l n, passed-by (shows o l) h)
 
 -- the body of a complete chunk at a place: where it ends, and what it is
 module _ (o : Order) (s : List ℕ) (at code size : ℕ) (e : shows o (drop at s) ≡ Complete code size) where
@@ -73,3 +74,31 @@ module _ (o : Order) (s : List ℕ) (at code size : ℕ) (e : shows o (drop at s
 pub still-took : {r : Stepped} {i : declared.Item} {c : Cursor} → (r .item ≡ i) × (r .shown ≡ noState) × (r .cursor ≡ c) →
     Took r (record { item = itemSaid i; shown = noState; cursor = c })
 still-took h = record { item = ap itemSaid (h .0); shown = h .1; cursor = h .2 }
+
+-- what holds of what is made of every chunk, and of what is made of every other item, holds of what is made of an item
+pub of-chunk : {A : Type 0} (P : A → Type 0) (other : A) (g : ℕ → ℕ → ℕ → Says → A) (i : Item) → P other → ((p code size : ℕ) (says : Says) → P (g p code size says)) →
+    P (ofChunk other g i)
+of-chunk P other g end h k = h
+of-chunk P other g (skipped p n) h k = h
+of-chunk P other g (unfinished p n) h k = h
+of-chunk P other g (chunk p code size says) h k = k p code size says
+
+-- an item at another place is a chunk, or the end, where it was
+pub placed-chunk : {A : Type 0} (f : ℕ → ℕ) (other : A) (g : ℕ → ℕ → ℕ → Says → A) (i : Item) → ofChunk other g (placedBy f i) ≡ ofChunk other (λ p. g (f p)) i
+placed-chunk f other g end = refl
+placed-chunk f other g (skipped p n) = refl
+placed-chunk f other g (unfinished p n) = refl
+placed-chunk f other g (chunk p code size says) = refl
+
+pub placed-end : (f : ℕ → ℕ) (i : Item) → isEnd (placedBy f i) ≡ isEnd i
+placed-end f end = refl
+placed-end f (skipped p n) = refl
+placed-end f (unfinished p n) = refl
+placed-end f (chunk p code size says) = refl
+
+-- counted anew and back, an item is what it was
+pub placed-back : (f g : ℕ → ℕ) → ((k : ℕ) → f (g k) ≡ k) → (i : Item) → placedBy f (placedBy g i) ≡ i
+placed-back f g h end = refl
+placed-back f g h (skipped p n) = rw (h p)
+placed-back f g h (unfinished p n) = rw (h p)
+placed-back f g h (chunk p code size says) = rw (h p)

@@ -14,8 +14,10 @@ use Rattle.num.specs.declared.Order.{Order}
 use Rattle.frame.specs.Frames.{Frame, frames}
 use Rattle.frame.specs.Frames as Frames
 use Rattle.frame.specs.Place.{shows, gap, stops}
-use Rattle.frame.specs.declared.At.{At}
-use Rattle.frame.specs.declared.At.the-variants.{NoSync, Bad, Unfinished, Complete}
+use Rattle.frame.specs.Ahead.{aheadOf}
+use Rattle.frame.specs.declared.Ahead.{Ahead}
+use Rattle.frame.specs.declared.Ahead.the-variants.{End, Stretch, Cut, Chunk}
+use Rattle.frame.proofs.Looks.{is-chunk, is-cut, is-stretch, is-end}
 use Rattle.frame.proofs.Frames.{gap-le, frames-nil, frames-chunk, frames-cut, frames-skip}
 use Rattle.frame.proofs.Laws.{gap-step}
 use Rattle.body.specs.Kind.{kindOf}
@@ -24,8 +26,8 @@ use Rattle.state.specs.declared.State.{State}
 use Rattle.state.proofs.Laws.{empty-good}
 use Rattle.effect.specs.Effect.{effect}
 use Rattle.effect.proofs.Good.{effect-good}
-use Rattle.reader.specs.Item.{Item, end, skipped, unfinished, chunk}
-use Rattle.reader.specs.Step.{Step, newCursor, before, refused, skips, stepBy, stepAhead, stepOf, after}
+use Rattle.reader.specs.Item.{Item, isEnd}
+use Rattle.reader.specs.Step.{Step, newCursor, before, refused, skips, stepBy, stepOf, after}
 use Rattle.reader.specs.Items.{Given, itemsFrom, items}
 use Rattle.reader.specs.declared.Cursor.{Cursor}
 use Rattle.reader.proofs.Laws.{unfit, step-end, step-ahead, chunk-ends, chunk-size}
@@ -59,35 +61,28 @@ before-good : (step : Bool) (s : State) → both step (not (goodState s)) ≡ fa
 before-good true s h = not-false (goodState s) h
 before-good false s h = empty-good true
 
-fit-by : (o : Order) (l : List ℕ) (c : Cursor) (a : At) → Fit c → Fit (stepBy o l c a .cursor)
-fit-by o l c (Complete code size) h =
+fit-by : (o : Order) (l : List ℕ) (c : Cursor) (a : Ahead) → Fit c → Fit (stepBy o l c a .cursor)
+fit-by o l c (Chunk code size) h =
     rw (effect-good o (take size (drop 12 l)) (before (c .«in_step») (c .state)) (before-good (c .«in_step») (c .state) h) (kindOf code))
-fit-by o l c Unfinished h = h
-fit-by o l c NoSync h = refl
-fit-by o l c Bad h = refl
+fit-by o l c End h = h
+fit-by o l c Cut h = h
+fit-by o l c Stretch h = refl
 
-fit-ahead : (o : Order) (l : List ℕ) (c : Cursor) → Fit c → Fit (stepAhead o l c .cursor)
-fit-ahead o [] c h = h
-fit-ahead o (x ∷ l) c h = fit-by o (x ∷ l) c (shows o (x ∷ l)) h
-
-fit-past : (o : Order) (s : List ℕ) (c : Cursor) (b : Bool) → ltb (length s) (c .place) ≡ b → Fit c → Fit (pick b (refused 2 c) (stepAhead o (drop (c .place) s) c) .cursor)
-fit-past o s c true e h = h
-fit-past o s c false e h = fit-ahead o (drop (c .place) s) c h
+fit-past : (o : Order) (l : List ℕ) (c : Cursor) (b : Bool) → Fit c → Fit (pick b (refused 2 c) (stepBy o l c (aheadOf o l)) .cursor)
+fit-past o l c true h = h
+fit-past o l c false h = fit-by o l c (aheadOf o l) h
 
 -- a step leaves a cursor that is fit where it came fit, so from a new cursor on number 3 is never due
 pub step-keeps-fit : (o : Order) (s : List ℕ) (c : Cursor) → Fit c → Fit (stepOf o s c .cursor)
 unfolding stepOf
-step-keeps-fit o s c h = rw h (fit-past o s c (ltb (length s) (c .place)) refl h)
+step-keeps-fit o s c h = rw h (fit-past o (drop (c .place) s) c (ltb (length s) (c .place)) h)
 
 -- ---- stepping from a new cursor to End gives the items
 
 -- the items that steps give, up to End or a refusal, at most as many as there is fuel
 abbrev pub told : Answer Item → State → List Given → List Given
 told (refuses n) shown rest = []
-told (gives end) shown rest = []
-told (gives (skipped p n)) shown rest = record { item = skipped p n; shown = shown } ∷ rest
-told (gives (unfinished p n)) shown rest = record { item = unfinished p n; shown = shown } ∷ rest
-told (gives (chunk p code size says)) shown rest = record { item = chunk p code size says; shown = shown } ∷ rest
+told (gives i) shown rest = pick (isEnd i) [] (record { item = i; shown = shown } ∷ rest)
 
 unfoldable pub reading : ℕ → Order → List ℕ → Cursor → List Given
 reading zero o s c = []
@@ -109,19 +104,20 @@ module _ (o : Order) (s : List ℕ) (c : Cursor) (h : c .place < length s) where
       ap (itemsFrom o (c .place) (c .«in_step») (c .state)) (frames-skip o s (c .place) h k)
       ∙ rw (length-take-le (gap o (drop (c .place) s)) (drop (c .place) s) (gap-le o (drop (c .place) s)))
 
-  one-by : (a : At) → shows o (drop (c .place) s) ≡ a →
+  one-by : (a : Ahead) → aheadOf o (drop (c .place) s) ≡ a →
       let t : Step = stepBy o (drop (c .place) s) c a in
       ahead o s c ≡ told (t .item) (t .shown) (ahead o s (t .cursor))
   unfolding itemsFrom
-  one-by (Complete code size) e =
-      ap (itemsFrom o (c .place) (c .«in_step») (c .state)) (frames-chunk o s (c .place) h code size e)
-      ∙ rw (chunk-size o s (c .place) code size e)
-  one-by Unfinished e = ap (itemsFrom o (c .place) (c .«in_step») (c .state)) (frames-cut o s (c .place) h e)
-  one-by NoSync e = skip-one (rw e)
-  one-by Bad e = skip-one (rw e)
+  one-by (Chunk code size) e =
+      let k = is-chunk o (drop (c .place) s) code size e in
+      ap (itemsFrom o (c .place) (c .«in_step») (c .state)) (frames-chunk o s (c .place) h code size k)
+      ∙ rw (chunk-size o s (c .place) code size k)
+  one-by Cut e = ap (itemsFrom o (c .place) (c .«in_step») (c .state)) (frames-cut o s (c .place) h (is-cut o (drop (c .place) s) e))
+  one-by Stretch e = skip-one (is-stretch o (drop (c .place) s) e)
+  one-by End e = absurd (omega (arith, is-end o (drop (c .place) s) e, length-drop (c .place) s))
 
   pub one : Fit c → let t : Step = stepOf o s c in ahead o s c ≡ told (t .item) (t .shown) (ahead o s (t .cursor))
-  one f = rw (step-ahead o s c h f) (one-by (shows o (drop (c .place) s)) refl)
+  one f = rw (step-ahead o s c (omega arith) f) (one-by (aheadOf o (drop (c .place) s)) refl)
 
 -- the cursor moves on, and not past the end
 pub record Goes (s : List ℕ) (c d : Cursor) : Type 0 where
@@ -133,14 +129,15 @@ passed-on o s c h k =
     let n = length-drop (c .place) s in
     record { on = omega (arith, gap-step o s (c .place) h k); within = omega (arith, gap-le o (drop (c .place) s)) }
 
-goes-by : (o : Order) (s : List ℕ) (c : Cursor) (a : At) → shows o (drop (c .place) s) ≡ a → c .place < length s → Goes s c (stepBy o (drop (c .place) s) c a .cursor)
-goes-by o s c (Complete code size) e h = record { on = omega arith; within = omega (arith, chunk-ends o s (c .place) code size e) }
-goes-by o s c Unfinished e h = let n = length-drop (c .place) s in record { on = omega arith; within = omega arith }
-goes-by o s c NoSync e h = passed-on o s c h (rw e)
-goes-by o s c Bad e h = passed-on o s c h (rw e)
+goes-by : (o : Order) (s : List ℕ) (c : Cursor) (a : Ahead) → aheadOf o (drop (c .place) s) ≡ a → c .place < length s → Goes s c (stepBy o (drop (c .place) s) c a .cursor)
+goes-by o s c (Chunk code size) e h =
+    record { on = omega arith; within = omega (arith, chunk-ends o s (c .place) code size (is-chunk o (drop (c .place) s) code size e)) }
+goes-by o s c Cut e h = let n = length-drop (c .place) s in record { on = omega arith; within = omega arith }
+goes-by o s c Stretch e h = passed-on o s c h (is-stretch o (drop (c .place) s) e)
+goes-by o s c End e h = absurd (omega (arith, is-end o (drop (c .place) s) e, length-drop (c .place) s))
 
 pub goes : (o : Order) (s : List ℕ) (c : Cursor) → Fit c → c .place < length s → Goes s c (stepOf o s c .cursor)
-goes o s c f h = rw (step-ahead o s c h f) (goes-by o s c (shows o (drop (c .place) s)) refl h)
+goes o s c f h = rw (step-ahead o s c (omega arith) f) (goes-by o s c (aheadOf o (drop (c .place) s)) refl h)
 
 -- steps from a cursor that is fit give what is ahead of it
 reads-by : (f : ℕ) (o : Order) (s : List ℕ) (c : Cursor) (b : Bool) → ltb (c .place) (length s) ≡ b → Fit c → c .place ≤ length s → length s < c .place + suc f →

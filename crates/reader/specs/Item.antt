@@ -1,5 +1,6 @@
 -- What a step gives.
 use Prim.Native.Nat.{ℕ}
+use mathlib.Core.Bool.{Bool, true, false}
 use Rattle.num.specs.Answer.{Answer, gives, refuses}
 use Rattle.effect.specs.Says.{Says, verdictSaid}
 use Rattle.reader.specs.declared.Item.the-variants.{PastEnd, BadState, End, Skipped, Unfinished, Chunk}
@@ -14,6 +15,30 @@ pub data Item : Type 0 where
   unfinished : ℕ → ℕ → Item
   -- a chunk: its place, type and size, and what is said of it
   chunk : ℕ → ℕ → ℕ → Says → Item
+
+-- what is made of a chunk, by its place, type, size and what is said of it; of every other item the same is made
+abbrev pub ofChunk {ℓ} : {A : Type ℓ} → A → (ℕ → ℕ → ℕ → Says → A) → Item → A
+ofChunk other f end = other
+ofChunk other f (skipped place n) = other
+ofChunk other f (unfinished place n) = other
+ofChunk other f (chunk place code size says) = f place code size says
+
+abbrev pub isChunk : Item → Bool
+isChunk i = ofChunk false (λ place code size says. true) i
+
+-- no item is left
+abbrev pub isEnd : Item → Bool
+isEnd end = true
+isEnd (skipped place n) = false
+isEnd (unfinished place n) = false
+isEnd (chunk place code size says) = false
+
+-- an item at another place
+abbrev pub placedBy : (ℕ → ℕ) → Item → Item
+placedBy f end = end
+placedBy f (skipped place n) = skipped (f place) n
+placedBy f (unfinished place n) = unfinished (f place) n
+placedBy f (chunk place code size says) = chunk (f place) code size says
 
 -- what each case of the answer says, the refusals by their numbers
 abbrev pub itemSaid : declared.Item → Answer Item

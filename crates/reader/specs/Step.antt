@@ -1,15 +1,16 @@
 -- One step of the reader, and a run of steps.
 use Prim.Native.Nat.{ℕ, zero, suc, _+_}
 use mathlib.Core.Bool.{Bool, true, false, not}
-use mathlib.Core.List.{List, [], _∷_}
+use mathlib.Core.List.{List}
 use lib.Dec.{ltb}
 use lib.ListN.{length, take, drop}
 use Rattle.num.specs.Answer.{Answer, gives, refuses}
 use Rattle.num.specs.Choice.{pick, both}
 use Rattle.num.specs.declared.Order.{Order}
-use Rattle.frame.specs.Place.{shows, gap}
-use Rattle.frame.specs.declared.At.{At}
-use Rattle.frame.specs.declared.At.the-variants.{NoSync, Bad, Unfinished, Complete}
+use Rattle.frame.specs.Place.{gap}
+use Rattle.frame.specs.Ahead.{aheadOf}
+use Rattle.frame.specs.declared.Ahead.{Ahead}
+use Rattle.frame.specs.declared.Ahead.the-variants.{End, Stretch, Cut, Chunk}
 use Rattle.body.specs.Kind.{kindOf}
 use Rattle.state.specs.State.{emptied}
 use Rattle.state.specs.Good.{goodState}
@@ -64,24 +65,19 @@ accepts c code size e = record {
   cursor = cursorAt (c .place + 12 + size) true (e .after);
 }
 
--- by what stands at the place, l being ahead of it
-abbrev pub stepBy : Order → List ℕ → Cursor → At → Step
-stepBy o l c (Complete code size) = accepts c code size (effect o (kindOf code) (take size (drop 12 l)) (before (c .«in_step») (c .state)))
-stepBy o l c Unfinished = cuts c (length l)
-stepBy o l c NoSync = skips c (gap o l)
-stepBy o l c Bad = skips c (gap o l)
-
--- with no byte left the answer is End, the cursor as it came
-abbrev pub stepAhead : Order → List ℕ → Cursor → Step
-stepAhead o [] c = record { item = gives end; shown = noState; cursor = c }
-stepAhead o (x ∷ l) c = stepBy o (x ∷ l) c (shows o (x ∷ l))
+-- by what is ahead, l being the bytes from the place on; with none left the answer is End, the cursor as it came
+abbrev pub stepBy : Order → List ℕ → Cursor → Ahead → Step
+stepBy o l c End = record { item = gives end; shown = noState; cursor = c }
+stepBy o l c (Chunk code size) = accepts c code size (effect o (kindOf code) (take size (drop 12 l)) (before (c .«in_step») (c .state)))
+stepBy o l c Cut = cuts c (length l)
+stepBy o l c Stretch = skips c (gap o l)
 
 -- number 2 past the end; number 3 in step with a state that is not good; then what is ahead
 unfoldable pub stepOf : Order → List ℕ → Cursor → Step
 stepOf o s c =
     pick (ltb (length s) (c .place)) (refused 2 c)
     (pick (both (c .«in_step») (not (goodState (c .state)))) (refused 3 c)
-    (stepAhead o (drop (c .place) s) c))
+    (stepBy o (drop (c .place) s) c (aheadOf o (drop (c .place) s))))
 
 -- the cursor after so many steps
 unfoldable pub after : ℕ → Order → List ℕ → Cursor → Cursor

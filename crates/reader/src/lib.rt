@@ -13,7 +13,7 @@ ghost use Rattle.reader.specs.Items.{items};
 ghost use Rattle.reader.specs.Took.{Took};
 ghost use Rattle.reader.specs.Step.{newCursor, before, accepted, lost, accepts, cuts, skips, stepOf};
 use effect::Verdict;
-use frame::At;
+use frame::Ahead;
 use frame::Found;
 use num::Order;
 use state::State;
@@ -124,22 +124,20 @@ impl Cursor {
         if s.len() < at {
             return still(Item::PastEnd, self);
         }
-        let state = self.state;
+        let values = self.state.values;
         // The two halves of the test are short enough to be inlined one by one.
-        if self.in_step & !(state.good_values() & state.good_lists()) {
+        if self.in_step & !(values.good_values() & values.good_lists()) {
             return still(Item::BadState, self);
         }
-        if at == s.len() {
-            return still(Item::End, self);
-        }
-        match frame::look(order, s, at) {
-            At::Complete { code, size } => {
+        match frame::ahead_of(order, s, at) {
+            Ahead::End => still(Item::End, self),
+            Ahead::Chunk { code, size } => {
                 let from = at + 12;
                 let to = from + size;
                 chunk(order, code, &s[from..to], self)
             }
-            At::Unfinished => cut(s.len() - at, self),
-            At::NoSync | At::Bad => skip(order, s, self),
+            Ahead::Cut => cut(s.len() - at, self),
+            Ahead::Stretch => skip(order, s, self),
         }
     }
 }
@@ -247,10 +245,11 @@ fn past(order: Order, s: &[u8], place: usize) -> usize
     requires { ⌜ place < length (now s) ⌝ }
     ensures { λ r. ⌜ r ≡ place + width (first order (drop place (now (s .entry)))) ⌝ }
 {
-    match frame::look(order, s, place) {
-        At::Complete { code: _, size } => place + 12 + size,
-        At::Unfinished => s.len(),
-        At::NoSync | At::Bad => stop(order, s, place),
+    match frame::ahead_of(order, s, place) {
+        Ahead::Chunk { code: _, size } => place + 12 + size,
+        Ahead::Cut => s.len(),
+        Ahead::Stretch => stop(order, s, place),
+        Ahead::End => place,
     }
 }
 

@@ -18,9 +18,9 @@ use Rattle.cover.specs.Cover.{total, covers, groupCovers}
 use Rattle.effect.specs.Effect.{effect}
 use Rattle.reader.specs.Step.{newCursor, stepOf}
 use Rattle.reader.specs.declared.Cursor.{Cursor}
-use Rattle.state.specs.Good.{goodState, goodFrom}
+use Rattle.state.specs.Good.{goodValues, goodLists, goodFrom}
 use Rattle.samples.specs.Copy.{layoutAt, countOf}
-use Rattle.samples.specs.Layout.{shapeOf}
+use Rattle.body.specs.Table.{shaped}
 use Rattle.writer.specs.Data.{runOf, pattern, timeOf, shortBody}
 use Rattle.roundtrip.proofs.Theorems.{leftBy}
 
@@ -36,5 +36,5 @@ pub third : Cursor
 third = stepOf Little stream (stepOf Little stream newCursor .cursor) .cursor
 
 pub copied : leftBy false Little stream third 1 (pos 9 ∷ pos 9 ∷ pos 9 ∷ []) ≡ pos 20 ∷ negsuc 1 ∷ pos 9 ∷ []
-unfolding stream third runOf stepOf shows starts kindOf kindIn known effect goodState goodFrom ofBits packed listed each offsetAt upto groupCovers covers total layoutAt countOf shapeOf pairsOf
+unfolding stream third runOf stepOf shows starts kindOf kindIn known effect goodValues goodLists goodFrom ofBits packed listed each offsetAt upto groupCovers covers total layoutAt countOf shaped pairsOf
 copied = refl

@@ -22,7 +22,8 @@ use Rattle.reader.specs.Item.{chunk}
 use Rattle.reader.specs.Step.{stepOf}
 use Rattle.reader.specs.declared.Cursor.{Cursor}
 use Rattle.state.specs.declared.State.{State}
-use Rattle.samples.specs.Layout.{shapeOf, layout, paired, real, member, valuesOf}
+use Rattle.body.specs.Table.{shaped}
+use Rattle.samples.specs.Layout.{layout, paired, real, member, valuesOf}
 use Rattle.samples.specs.Copy.{countOf}
 use Rattle.samples.specs.Plan.{wide}
 use Rattle.samples.proofs.Ready.{bytesIn}
@@ -43,34 +44,34 @@ groupKind true = GFNC
 groupKind false = GSNC
 
 -- their layouts, and how many numbers make so many samples
-real-layout : (float : Bool) (s : State) (d : Data) → layout float (shapeOf (kindOf (codeOf (realKind float)))) 0 s d ≡ gives (real d)
-unfolding shapeOf kindOf kindIn known
+real-layout : (float : Bool) (s : State) (d : Data) → layout float (shaped (kindOf (codeOf (realKind float)))) 0 s d ≡ gives (real d)
+unfolding shaped kindOf kindIn known
 real-layout true s d = refl
 real-layout false s d = refl
 
-pair-layout : (float : Bool) (s : State) (d : Data) → layout float (shapeOf (kindOf (codeOf (pairKind float)))) 0 s d ≡ gives (paired s d)
-unfolding shapeOf kindOf kindIn known
+pair-layout : (float : Bool) (s : State) (d : Data) → layout float (shaped (kindOf (codeOf (pairKind float)))) 0 s d ≡ gives (paired s d)
+unfolding shaped kindOf kindIn known
 pair-layout true s d = refl
 pair-layout false s d = refl
 
-group-layout : (float : Bool) (channel : ℕ) (s : State) (d : Data) → channel < s .group .n →
-    layout float (shapeOf (kindOf (codeOf (groupKind float)))) channel s d ≡ gives (member channel s d)
-unfolding shapeOf kindOf kindIn known
-group-layout true channel s d h = rw (lt-ltb channel (s .group .n) h)
-group-layout false channel s d h = rw (lt-ltb channel (s .group .n) h)
+group-layout : (float : Bool) (channel : ℕ) (s : State) (d : Data) → channel < s .values .group .n →
+    layout float (shaped (kindOf (codeOf (groupKind float)))) channel s d ≡ gives (member channel s d)
+unfolding shaped kindOf kindIn known
+group-layout true channel s d h = rw (lt-ltb channel (s .values .group .n) h)
+group-layout false channel s d h = rw (lt-ltb channel (s .values .group .n) h)
 
-real-count : (float : Bool) (n m : ℕ) → n * wide float ≡ m * bytesIn (shapeOf (kindOf (codeOf (realKind float)))) → n ≡ m
-unfolding shapeOf kindOf kindIn known
+real-count : (float : Bool) (n m : ℕ) → n * wide float ≡ m * bytesIn (shaped (kindOf (codeOf (realKind float)))) → n ≡ m
+unfolding shaped kindOf kindIn known
 real-count true n m e = omega arith
 real-count false n m e = omega arith
 
-pair-count : (float : Bool) (n m : ℕ) → n * wide float ≡ m * bytesIn (shapeOf (kindOf (codeOf (pairKind float)))) → n ≡ 2 * m
-unfolding shapeOf kindOf kindIn known
+pair-count : (float : Bool) (n m : ℕ) → n * wide float ≡ m * bytesIn (shaped (kindOf (codeOf (pairKind float)))) → n ≡ 2 * m
+unfolding shaped kindOf kindIn known
 pair-count true n m e = omega arith
 pair-count false n m e = omega arith
 
-group-count : (float : Bool) (n m : ℕ) → n * wide float ≡ m * bytesIn (shapeOf (kindOf (codeOf (groupKind float)))) → n ≡ 2 * m
-unfolding shapeOf kindOf kindIn known
+group-count : (float : Bool) (n m : ℕ) → n * wide float ≡ m * bytesIn (shaped (kindOf (codeOf (groupKind float)))) → n ≡ 2 * m
+unfolding shaped kindOf kindIn known
 group-count true n m e = omega arith
 group-count false n m e = omega arith
 
@@ -87,7 +88,7 @@ module _ (float : Bool) (o : Order) (s : List ℕ) (c : Cursor) (time : ℤ) (xs
       (b .0 ∙ ap gives (sym n), b .1 ∙ ap (λ ys. laid ys out) v)
 
   -- SSNC and SFNC where I stands before Q: so too.
-  pub pairs-back : Here float o s c (codeOf (pairKind float)) time xs → stepOf o s c .shown .packing .value ≡ pos 1 → length xs ≤ length out →
+  pub pairs-back : Here float o s c (codeOf (pairKind float)) time xs → stepOf o s c .shown .values .packing .value ≡ pos 1 → length xs ≤ length out →
       (countOf float o s c 0 (length out) ≡ gives (length xs)) × (leftBy float o s c 0 out ≡ laid xs out)
   pairs-back h iq r =
       let n : length xs ≡ 2 * d .samples = pair-count float (length xs) (d .samples) (ready-count float o s c _ time xs h p k size d e) in
@@ -99,7 +100,7 @@ module _ (float : Bool) (o : Order) (s : List ℕ) (c : Cursor) (time : ℤ) (xs
 
   -- SSNC and SFNC in any packing: pair j is given as its I, then its Q.
   pub pairs-packed-back : Here float o s c (codeOf (pairKind float)) time xs → length xs ≤ length out →
-      let iq : Bool = isNumber 1 (stepOf o s c .shown .packing .value) in
+      let iq : Bool = isNumber 1 (stepOf o s c .shown .values .packing .value) in
       (length xs ≡ 2 * d .samples)
       × (countOf float o s c 0 (length out) ≡ gives (2 * d .samples))
       × ((j : ℕ) → j < d .samples →
@@ -118,7 +119,7 @@ module _ (float : Bool) (o : Order) (s : List ℕ) (c : Cursor) (time : ℤ) (xs
 
   -- GSNC and GFNC: a channel below n has P/n pairs, and its pair j is the one at offset + j · increment.
   pub group-back : Here float o s c (codeOf (groupKind float)) time xs → (channel : ℕ) →
-      let g : GroupPacking = stepOf o s c .shown .group in
+      let g : GroupPacking = stepOf o s c .shown .values .group in
       let each : ℕ = d .samples / g .n in
       channel < g .n → 2 * each ≤ length out →
       (length xs ≡ 2 * d .samples)

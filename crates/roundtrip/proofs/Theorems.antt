@@ -28,7 +28,8 @@ use Rattle.reader.specs.Step.{stepOf}
 use Rattle.reader.specs.declared.Cursor.{Cursor}
 use Rattle.reader.proofs.Laws.{chunk-size}
 use Rattle.state.specs.declared.State.{State}
-use Rattle.samples.specs.Layout.{shapeOf, layout, numbers, valuesOf}
+use Rattle.body.specs.Table.{shaped}
+use Rattle.samples.specs.Layout.{layout, numbers, valuesOf}
 use Rattle.samples.specs.Copy.{layoutIn, layoutBy, layoutAt, countOf, samplesAt, filled}
 use Rattle.samples.specs.Plan.{wide, lies}
 use Rattle.samples.specs.declared.Laid.the-variants as laid
@@ -162,11 +163,11 @@ module _ (float : Bool) (o : Order) (s : List ℕ) (c : Cursor) (code : ℕ) (ti
 
   -- a ready chunk has the layout of its kind, and as many samples as the numbers make
   pub ready-layout : (p k size : ℕ) (d : Data) (channel : ℕ) → stepOf o s c .item ≡ gives (chunk p k size (ready d)) →
-      layoutAt float o s c channel ≡ layout float (shapeOf (kindOf code)) channel (stepOf o s c .shown) d
+      layoutAt float o s c channel ≡ layout float (shaped (kindOf code)) channel (stepOf o s c .shown) d
   unfolding layoutAt
   ready-layout p k size d channel e = let q = chunk-is p k size (ready d) e .0 in rw (e, q)
 
-  pub ready-count : (p k size : ℕ) (d : Data) → stepOf o s c .item ≡ gives (chunk p k size (ready d)) → length xs * wide float ≡ d .samples * bytesIn (shapeOf (kindOf code))
+  pub ready-count : (p k size : ℕ) (d : Data) → stepOf o s c .item ≡ gives (chunk p k size (ready d)) → length xs * wide float ≡ d .samples * bytesIn (shaped (kindOf code))
   ready-count p k size d e =
       let t = stands o c p k size (ready d) s e in
       let q = chunk-is p k size (ready d) e in

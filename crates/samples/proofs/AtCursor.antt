@@ -10,14 +10,17 @@ use Rattle.num.specs.Answer.{gives}
 use Rattle.num.specs.Choice.{pick, both}
 use Rattle.num.specs.declared.Order.{Order}
 use Rattle.frame.specs.Place.{shows}
-use Rattle.frame.specs.declared.At.{At}
-use Rattle.frame.specs.declared.At.the-variants.{NoSync, Bad, Unfinished, Complete}
+use Rattle.frame.specs.Ahead.{aheadOf}
+use Rattle.frame.specs.declared.Ahead.{Ahead}
+use Rattle.frame.specs.declared.Ahead.the-variants.{End, Stretch, Cut, Chunk}
+use Rattle.frame.proofs.Looks.{is-chunk}
+use Rattle.frame.specs.declared.At.the-variants.{Complete}
 use Rattle.body.specs.Kind.{kindOf}
 use Rattle.effect.specs.Says.{Says}
 use Rattle.effect.specs.Effect.{Effect, effect}
 use Rattle.state.specs.Good.{goodState}
 use Rattle.reader.specs.Item.{chunk}
-use Rattle.reader.specs.Step.{Step, before, refused, accepts, stepBy, stepAhead, stepOf}
+use Rattle.reader.specs.Step.{Step, before, refused, accepts, stepBy, stepOf}
 use Rattle.reader.specs.declared.Cursor.{Cursor}
 
 -- the effect of the chunk that l, ahead of the cursor, begins with
@@ -30,26 +33,22 @@ pub record Stands (o : Order) (l : List ℕ) (c : Cursor) (t : Step) (code size 
   pub said : effectOf o l c code size .says ≡ says
 
 module _ (o : Order) (c : Cursor) (p code size : ℕ) (says : Says) where
-  stands-by : (l : List ℕ) (a : At) → shows o l ≡ a → stepBy o l c a .item ≡ gives (chunk p code size says) → Stands o l c (stepBy o l c a) code size says
-  stands-by l (Complete k n) h e =
+  stands-by : (l : List ℕ) (a : Ahead) → aheadOf o l ≡ a → stepBy o l c a .item ≡ gives (chunk p code size says) → Stands o l c (stepBy o l c a) code size says
+  stands-by l (Chunk k n) h e =
       let i : k ≡ code = cc in
       let j : n ≡ size = cc in
       let q : effectOf o l c k n .says ≡ says = cc in
-      record { here = h ∙ rw (i, j); step = rw (i, j); said = rw (← i, ← j) q }
-  stands-by l Unfinished h e = let z : _≡_ {A = ℕ} 0 1 = cc in absurd (omega arith)
-  stands-by l NoSync h e = let z : _≡_ {A = ℕ} 0 1 = cc in absurd (omega arith)
-  stands-by l Bad h e = let z : _≡_ {A = ℕ} 0 1 = cc in absurd (omega arith)
-
-  ahead-by : (l : List ℕ) → stepAhead o l c .item ≡ gives (chunk p code size says) → Stands o l c (stepAhead o l c) code size says
-  ahead-by [] e = let z : _≡_ {A = ℕ} 0 1 = cc in absurd (omega arith)
-  ahead-by (x ∷ l) e = stands-by (x ∷ l) (shows o (x ∷ l)) refl e
+      record { here = is-chunk o l k n h ∙ rw (i, j); step = rw (i, j); said = rw (← i, ← j) q }
+  stands-by l Cut h e = let z : _≡_ {A = ℕ} 0 1 = cc in absurd (omega arith)
+  stands-by l Stretch h e = let z : _≡_ {A = ℕ} 0 1 = cc in absurd (omega arith)
+  stands-by l End h e = let z : _≡_ {A = ℕ} 0 1 = cc in absurd (omega arith)
 
   tests-by : (l : List ℕ) (a b : Bool) →
-      let t : Step = pick a (refused 2 c) (pick b (refused 3 c) (stepAhead o l c)) in
+      let t : Step = pick a (refused 2 c) (pick b (refused 3 c) (stepBy o l c (aheadOf o l))) in
       t .item ≡ gives (chunk p code size says) → Stands o l c t code size says
   tests-by l true b e = let z : _≡_ {A = ℕ} 0 1 = cc in absurd (omega arith)
   tests-by l false true e = let z : _≡_ {A = ℕ} 0 1 = cc in absurd (omega arith)
-  tests-by l false false e = ahead-by l e
+  tests-by l false false e = stands-by l (aheadOf o l) refl e
 
   pub stands : (s : List ℕ) → stepOf o s c .item ≡ gives (chunk p code size says) → Stands o (drop (c .place) s) c (stepOf o s c) code size says
   unfolding stepOf

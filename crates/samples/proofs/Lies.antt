@@ -16,10 +16,11 @@ use Rattle.copy.specs.Samples.{inside, placeOf}
 use Rattle.cover.proofs.Theorems.{group-says}
 use Rattle.state.specs.declared.State.{State}
 use Rattle.samples.specs.Plan.{wide, lies}
-use Rattle.samples.specs.Layout.{hasWidth, alone, paired, real, member, oneOf, arranged}
+use Rattle.samples.specs.Layout.{alone, paired, real, member, oneOf, layout}
 use Rattle.samples.specs.declared.Layout.{Layout}
-use Rattle.samples.specs.declared.Shape.{Shape}
-use Rattle.samples.specs.declared.Shape.the-variants.{ShortPairs, ShortReals, ShortGroup, FloatPairs, FloatReals, FloatGroup, NoData}
+use Rattle.body.specs.declared.data.Shape.the-variants.{ShortPairs, ShortReals, ShortGroup, FloatPairs, FloatReals, FloatGroup}
+use Rattle.body.specs.declared.data.Shaped.{Shaped}
+use Rattle.body.specs.declared.data.Shaped.the-variants.{Samples, NoSamples}
 use Rattle.samples.proofs.Ready.{IsReady, Covered}
 
 inside-of : (w size place samples : ℕ) → size ≡ samples * (2 * w) → place < samples → inside w size place ≡ true
@@ -42,23 +43,23 @@ module _ (channel : ℕ) (body : List ℕ) (s : State) (d : Data) (l : Layout) w
       let h = alone-gives channel (eqb channel 0) (real d) l e in
       rw (← h .1) (le-leb (d .samples * w) (length body - 8) (omega arith))
 
-  group-lies : (w : ℕ) → length body ≡ 8 + d .samples * (2 * w) → Covered ShortGroup d (s .group) → oneOf channel s d ≡ gives l → lies w (length body - 8) l ≡ true
+  group-lies : (w : ℕ) → length body ≡ 8 + d .samples * (2 * w) → Covered (Samples ShortGroup) d (s .values .group) → oneOf channel s d ≡ gives l → lies w (length body - 8) l ≡ true
   group-lies w n k e =
-      let h = alone-gives channel (ltb channel (s .group .n)) (member channel s d) l e in
-      let g = group-says (d .samples) (s .group .n) (s .group .increment) (s .group .offsets) k in
-      rw (← h .1) (each-all (λ (j : ℕ). inside w (length body - 8) (placeOf (getD (s .group .offsets) channel 0) (s .group .increment) j)) (d .samples / s .group .n) (λ j q. inside-of w (length body - 8) (placeOf (getD (s .group .offsets) channel 0) (s .group .increment) j) (d .samples) (omega arith) (g .cover .each .inside channel j (ltb-true channel (s .group .n) (h .0)) q)))
+      let h = alone-gives channel (ltb channel (s .values .group .n)) (member channel s d) l e in
+      let g = group-says (d .samples) (s .values .group .n) (s .values .group .increment) (s .values .group .offsets) k in
+      rw (← h .1) (each-all (λ (j : ℕ). inside w (length body - 8) (placeOf (getD (s .values .group .offsets) channel 0) (s .values .group .increment) j)) (d .samples / s .values .group .n) (λ j q. inside-of w (length body - 8) (placeOf (getD (s .values .group .offsets) channel 0) (s .values .group .increment) j) (d .samples) (omega arith) (g .cover .each .inside channel j (ltb-true channel (s .values .group .n) (h .0)) q)))
 
-  pub layout-lies : {was : State} (float : Bool) (shape : Shape) → hasWidth float shape ≡ true → IsReady shape body d was s → arranged shape channel s d ≡ gives l → lies (wide float) (length body - 8) l ≡ true
-  layout-lies false ShortPairs w r e = pairs-lie 2 (r .size) e
-  layout-lies false ShortReals w r e = reals-lie 2 (r .size) e
-  layout-lies false ShortGroup w r e = group-lies 2 (r .size) (r .cover) e
-  layout-lies true FloatPairs w r e = pairs-lie 4 (r .size) e
-  layout-lies true FloatReals w r e = reals-lie 4 (r .size) e
-  layout-lies true FloatGroup w r e = group-lies 4 (r .size) (r .cover) e
-  layout-lies true ShortPairs w r e = let z : _≡_ {A = ℕ} 0 1 = cc in absurd (omega arith)
-  layout-lies true ShortReals w r e = let z : _≡_ {A = ℕ} 0 1 = cc in absurd (omega arith)
-  layout-lies true ShortGroup w r e = let z : _≡_ {A = ℕ} 0 1 = cc in absurd (omega arith)
-  layout-lies false FloatPairs w r e = let z : _≡_ {A = ℕ} 0 1 = cc in absurd (omega arith)
-  layout-lies false FloatReals w r e = let z : _≡_ {A = ℕ} 0 1 = cc in absurd (omega arith)
-  layout-lies false FloatGroup w r e = let z : _≡_ {A = ℕ} 0 1 = cc in absurd (omega arith)
-  layout-lies float NoData w r e = let z : _≡_ {A = ℕ} 0 1 = cc in absurd (omega arith)
+  pub layout-lies : {was : State} (float : Bool) (shaped : Shaped) → IsReady shaped body d was s → layout float shaped channel s d ≡ gives l → lies (wide float) (length body - 8) l ≡ true
+  layout-lies false (Samples ShortPairs) r e = pairs-lie 2 (r .size) e
+  layout-lies false (Samples ShortReals) r e = reals-lie 2 (r .size) e
+  layout-lies false (Samples ShortGroup) r e = group-lies 2 (r .size) (r .cover) e
+  layout-lies true (Samples FloatPairs) r e = pairs-lie 4 (r .size) e
+  layout-lies true (Samples FloatReals) r e = reals-lie 4 (r .size) e
+  layout-lies true (Samples FloatGroup) r e = group-lies 4 (r .size) (r .cover) e
+  layout-lies true (Samples ShortPairs) r e = let z : _≡_ {A = ℕ} 0 1 = cc in absurd (omega arith)
+  layout-lies true (Samples ShortReals) r e = let z : _≡_ {A = ℕ} 0 1 = cc in absurd (omega arith)
+  layout-lies true (Samples ShortGroup) r e = let z : _≡_ {A = ℕ} 0 1 = cc in absurd (omega arith)
+  layout-lies false (Samples FloatPairs) r e = let z : _≡_ {A = ℕ} 0 1 = cc in absurd (omega arith)
+  layout-lies false (Samples FloatReals) r e = let z : _≡_ {A = ℕ} 0 1 = cc in absurd (omega arith)
+  layout-lies false (Samples FloatGroup) r e = let z : _≡_ {A = ℕ} 0 1 = cc in absurd (omega arith)
+  layout-lies float NoSamples r e = let z : _≡_ {A = ℕ} 0 1 = cc in absurd (omega arith)

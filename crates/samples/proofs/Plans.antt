@@ -1,23 +1,26 @@
 -- What a chunk that a step gives tells of its samples.
 use Prim.Native.Nat.{ℕ}
 use mathlib.Core.Path.{_≡_, refl, sym, ap, _∙_}
-use mathlib.Core.Bool.{Bool, true, false}
+use mathlib.Core.Bool.{Bool, false}
 use mathlib.Core.List.{List}
 use native.Mathlib.Omega.{arith}
 use lib.ListN.{length, take, drop}
 use Rattle.num.specs.Answer.{Answer, gives, refuses}
-use Rattle.num.specs.Choice.{pick}
 use Rattle.num.specs.declared.Order.{Order}
+use Rattle.frame.specs.Ahead.{isChunk}
+use Rattle.frame.specs.declared.Ahead.{Ahead}
+use Rattle.frame.specs.declared.Ahead.the-variants.{End, Stretch, Cut, Chunk}
 use Rattle.body.specs.Kind.{kindOf}
+use Rattle.body.specs.Table.{shaped}
 use Rattle.body.specs.declared.data.Data.{Data}
 use Rattle.effect.specs.Says.{Says, ok, unknown, bad, waits, ready}
 use Rattle.reader.specs.Item.{chunk}
-use Rattle.reader.specs.Step.{stepOf}
+use Rattle.reader.specs.Step.{stepBy, stepOf}
 use Rattle.reader.specs.declared.Cursor.{Cursor}
 use Rattle.reader.proofs.Laws.{chunk-ends, chunk-size}
 use Rattle.state.specs.declared.State.{State}
-use Rattle.samples.specs.Layout.{shapeOf, hasWidth, arranged, layout, laidSaid}
-use Rattle.samples.specs.Copy.{layoutIn, layoutAt}
+use Rattle.samples.specs.Layout.{layout, laidSaid}
+use Rattle.samples.specs.Copy.{layoutIn, layoutBy, layoutAt}
 use Rattle.samples.specs.Plan.{plannedSaid, sizedBy, Sound}
 use Rattle.samples.specs.declared.Laid.{Laid}
 use Rattle.samples.specs.declared.Laid.the-variants as laid
@@ -27,12 +30,16 @@ use Rattle.samples.proofs.AtCursor.{stands}
 use Rattle.samples.proofs.Lies.{layout-lies}
 use Rattle.samples.proofs.Ready.{effect-ready}
 
-width-by : (b : Bool) (a : Answer Layout) (l : Layout) → pick b a (refuses 35) ≡ gives l → (b ≡ true) × (a ≡ gives l)
-width-by true a l e = (refl, e)
-width-by false a l e = let z : _≡_ {A = ℕ} 0 1 = cc in absurd (omega arith)
+-- what is no chunk has no place for samples
+pub none-ahead : (float : Bool) (channel : ℕ) (o : Order) (l : List ℕ) (c : Cursor) (a : Ahead) → isChunk a ≡ false →
+    refuses 35 ≡ layoutBy float channel (stepBy o l c a .shown) (stepBy o l c a .item)
+none-ahead float channel o l c End e = refl
+none-ahead float channel o l c Stretch e = refl
+none-ahead float channel o l c Cut e = refl
+none-ahead float channel o l c (Chunk code size) e = let z : _≡_ {A = ℕ} 0 1 = cc in absurd (omega arith)
 
 in-by : (float : Bool) (channel code : ℕ) (shown : State) (says : Says) (l : Layout) → layoutIn float channel shown says code ≡ gives l →
-    (d : Data) × (says ≡ ready d) × (layout float (shapeOf (kindOf code)) channel shown d ≡ gives l)
+    (d : Data) × (says ≡ ready d) × (layout float (shaped (kindOf code)) channel shown d ≡ gives l)
 in-by float channel code shown ok l e = let z : _≡_ {A = ℕ} 0 1 = cc in absurd (omega arith)
 in-by float channel code shown unknown l e = let z : _≡_ {A = ℕ} 0 1 = cc in absurd (omega arith)
 in-by float channel code shown (bad n) l e = let z : _≡_ {A = ℕ} 0 1 = cc in absurd (omega arith)
@@ -46,16 +53,14 @@ module _ (float : Bool) (o : Order) (s : List ℕ) (c : Cursor) (channel place c
       let t = stands o c place code size says s e in
       let i = in-by float channel code (stepOf o s c .shown) says l h in
       let d = i .0 in
-      let shape = shapeOf (kindOf code) in
       let body = take size (drop 12 (drop (c .place) s)) in
-      let w = width-by (hasWidth float shape) (arranged shape channel (stepOf o s c .shown) d) l (i .2) in
       let r = rw (← ap (λ x. x .shown) (t .step)) at (effect-ready o body _ d (kindOf code) (t .said ∙ i .1)) in
       let n : length body ≡ size = chunk-size o s (c .place) code size (t .here) in
       let q = r .size in (
         omega arith,
         chunk-ends o s (c .place) code size (t .here),
         rw e,
-        rw n at (layout-lies channel body (stepOf o s c .shown) d l float shape (w .0) r (w .1)),
+        rw n at (layout-lies channel body (stepOf o s c .shown) d l float (shaped (kindOf code)) r (i .2)),
       )
 
   -- the layout is that of the rule, and what is known of it is so

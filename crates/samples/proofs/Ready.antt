@@ -11,50 +11,39 @@ use borrow.Author.Tests.{leb-true, eqb-true}
 use Rattle.num.specs.Answer.{Answer, gives, refuses}
 use Rattle.num.specs.Choice.{pick, both}
 use Rattle.num.specs.declared.Order.{Order}
-use Rattle.body.specs.Numbers.{siqp, sofh, sr, bw, cf, bwof}
-use Rattle.body.specs.Levels.{dbfs, dbtg, ffs}
-use Rattle.body.specs.Groups.{giqp, gcf, grg}
-use Rattle.body.specs.Plain.{empty, text}
-use Rattle.body.specs.Samples.{timed, ssnc, ssnr, sfnc, sfnr, gsnc, gfnc}
+use Rattle.body.specs.Samples.{timed, sampleBytes, dataOf}
+use Rattle.body.specs.Table.{Row, sets, marks, leaves, samples, row, shapedBy, shaped}
+use Rattle.body.specs.Table as Table
 use Rattle.body.specs.declared.data.Data.{Data}
+use Rattle.body.specs.declared.data.Shape.{Shape}
+use Rattle.body.specs.declared.data.Shape.the-variants.{ShortPairs, ShortReals, ShortGroup, FloatPairs, FloatReals, FloatGroup}
+use Rattle.body.specs.declared.data.Shaped.{Shaped}
+use Rattle.body.specs.declared.data.Shaped.the-variants.{Samples, NoSamples}
 use Rattle.body.specs.declared.group.GroupPacking.{GroupPacking}
 use Rattle.body.specs.declared.kind.Kind.{Kind}
-use Rattle.body.specs.declared.kind.Kind.the-variants.{SSNC, SSNR, SFNC, SFNR, GSNC, GFNC, SIQP, SR, BW, GCBW, BWOF, CF, DBFS, DBTG, FFS, GIQP, GCF, GRG, SOFH, EOFH, IQDC, TEXT, Unknown}
 use Rattle.cover.specs.Cover.{groupCovers}
 use Rattle.effect.specs.Says.{Says, ok, unknown, bad, waits, ready, judged}
-use Rattle.effect.specs.Ready.{dataSays, covering, isReady, inGroup, noState}
-use Rattle.effect.specs.Effect.{effect}
+use Rattle.effect.specs.Ready.{dataSays, covering, ofGroup, isReady, inGroup, noState}
+use Rattle.effect.specs.Effect.{sampled, effectBy, effect}
+use Rattle.state.specs.State.{withValues}
 use Rattle.state.specs.declared.State.{State}
-use Rattle.samples.specs.Layout.{shapeOf}
-use Rattle.samples.specs.declared.Shape.{Shape}
-use Rattle.samples.specs.declared.Shape.the-variants.{ShortPairs, ShortReals, ShortGroup, FloatPairs, FloatReals, FloatGroup, NoData}
 
 -- how many bytes a sample takes
-abbrev pub bytesIn : Shape → ℕ
-bytesIn ShortPairs = 4
-bytesIn ShortReals = 2
-bytesIn ShortGroup = 4
-bytesIn FloatPairs = 8
-bytesIn FloatReals = 4
-bytesIn FloatGroup = 8
-bytesIn NoData = 1
+abbrev pub bytesIn : Shaped → ℕ
+bytesIn (Samples shape) = sampleBytes shape
+bytesIn NoSamples = 1
 
 -- a group covers its pairs
-abbrev pub Covered : Shape → Data → GroupPacking → Type 0
-Covered ShortPairs d g = Unit {0}
-Covered ShortReals d g = Unit {0}
-Covered ShortGroup d g = groupCovers (d .samples) (g .n) (g .increment) (g .offsets) ≡ true
-Covered FloatPairs d g = Unit {0}
-Covered FloatReals d g = Unit {0}
-Covered FloatGroup d g = groupCovers (d .samples) (g .n) (g .increment) (g .offsets) ≡ true
-Covered NoData d g = Unit {0}
+abbrev pub Covered : Shaped → Data → GroupPacking → Type 0
+Covered (Samples shape) d g = pick (ofGroup shape) (groupCovers (d .samples) (g .n) (g .increment) (g .offsets) ≡ true) (Unit {0})
+Covered NoSamples d g = Unit {0}
 
 -- in state s, with what is shown
-pub record IsReady (shape : Shape) (body : List ℕ) (d : Data) (s shown : State) : Type 0 where
-  pub size : length body ≡ 8 + d .samples * bytesIn shape
-  pub cover : Covered shape d (shown .group)
-  pub packing : shown .packing ≡ s .packing
-  pub group : shown .group ≡ s .group
+pub record IsReady (shaped : Shaped) (body : List ℕ) (d : Data) (s shown : State) : Type 0 where
+  pub size : length body ≡ 8 + d .samples * bytesIn shaped
+  pub cover : Covered shaped d (shown .values .group)
+  pub packing : shown .values .packing ≡ s .values .packing
+  pub group : shown .values .group ≡ s .values .group
 
 -- a size that is whole samples after the time
 timed-by : (w : ℕ) (body : List ℕ) (a b : Bool) (x d : Data) → leb 8 (length body) ≡ a → eqb ((length body - 8) % w) 0 ≡ b →
@@ -103,42 +92,36 @@ shown-by : (s : Says) (d : Data) (x : State) → s ≡ ready d → pick (isReady
 shown-by s d x e = rw e
 
 module _ (o : Order) (body : List ℕ) (s : State) (d : Data) where
-  single-ready : (shape : Shape) (a : Answer Data) (p r t : Bool) → (a ≡ gives d → length body ≡ 8 + d .samples * bytesIn shape) → Covered shape d (s .group) →
+  single-ready : (shape : Shape) (a : Answer Data) (p r t : Bool) → (a ≡ gives d → length body ≡ 8 + d .samples * sampleBytes shape) → Covered (Samples shape) d (s .values .group) →
       let y : Says = dataSays a p r t in
-      y ≡ ready d → IsReady shape body d s (pick (isReady y) s noState)
+      y ≡ ready d → IsReady (Samples shape) body d s (pick (isReady y) s noState)
   single-ready shape a p r t q k e = rw (shown-by (dataSays a p r t) d s e) (record { size = q (says-by a p r t d e); cover = k; packing = refl; group = refl })
 
-  group-ready : (shape : Shape) (a : Answer Data) (p r t : Bool) → (a ≡ gives d → length body ≡ 8 + d .samples * bytesIn shape) →
-      (groupCovers (d .samples) (s .group .n) (s .group .increment) (s .group .offsets) ≡ true → Covered shape d (s .group)) →
-      let y : Says = covering (s .group) (dataSays a p r t) in
-      y ≡ ready d → IsReady shape body d s (pick (isReady y) (inGroup s) noState)
+  group-ready : (shape : Shape) (a : Answer Data) (p r t : Bool) → (a ≡ gives d → length body ≡ 8 + d .samples * sampleBytes shape) →
+      (groupCovers (d .samples) (s .values .group .n) (s .values .group .increment) (s .values .group .offsets) ≡ true → Covered (Samples shape) d (s .values .group)) →
+      let y : Says = covering (s .values .group) (dataSays a p r t) in
+      y ≡ ready d → IsReady (Samples shape) body d s (pick (isReady y) (withValues s (inGroup (s .values))) noState)
   group-ready shape a p r t q k e =
-      let h = covering-by (s .group) (dataSays a p r t) d e in
-      rw (shown-by (covering (s .group) (dataSays a p r t)) d (inGroup s) e) (record { size = q (says-by a p r t d (h .1)); cover = k (h .0); packing = refl; group = refl })
+      let h = covering-by (s .values .group) (dataSays a p r t) d e in
+      rw (shown-by (covering (s .values .group) (dataSays a p r t)) d (withValues s (inGroup (s .values))) e) (record { size = q (says-by a p r t d (h .1)); cover = k (h .0); packing = refl; group = refl })
 
-  -- a chunk that is said to be ready, by its kind
-  pub effect-ready : (k : Kind) → effect o k body s .says ≡ ready d → IsReady (shapeOf k) body d s (effect o k body s .shown)
-  unfolding effect shapeOf
-  effect-ready SSNC e = single-ready ShortPairs (ssnc o body) (s .packing .present) (s .rate .present) true (timed-size 4 o body d) tt e
-  effect-ready SSNR e = single-ready ShortReals (ssnr o body) true (s .rate .present) true (timed-size 2 o body d) tt e
-  effect-ready SFNC e = single-ready FloatPairs (sfnc o body) (s .packing .present) (s .rate .present) (s .«float_scale» .present) (timed-size 8 o body d) tt e
-  effect-ready SFNR e = single-ready FloatReals (sfnr o body) true (s .rate .present) (s .«float_scale» .present) (timed-size 4 o body d) tt e
-  effect-ready GSNC e = group-ready ShortGroup (gsnc o body) (ltb 0 (s .group .n)) (s .rate .present) true (timed-size 4 o body d) (λ h. h) e
-  effect-ready GFNC e = group-ready FloatGroup (gfnc o body) (ltb 0 (s .group .n)) (s .rate .present) (s .«float_scale» .present) (timed-size 8 o body d) (λ h. h) e
-  effect-ready SIQP e = absurd (judged-by (siqp o body) d e)
-  effect-ready SR e = absurd (judged-by (sr o body) d e)
-  effect-ready BW e = absurd (judged-by (bw o body) d e)
-  effect-ready GCBW e = absurd (judged-by (bw o body) d e)
-  effect-ready BWOF e = absurd (judged-by (bwof o body) d e)
-  effect-ready CF e = absurd (judged-by (cf o body) d e)
-  effect-ready DBFS e = absurd (judged-by (dbfs o body) d e)
-  effect-ready DBTG e = absurd (judged-by (dbtg o body) d e)
-  effect-ready FFS e = absurd (judged-by (ffs o body) d e)
-  effect-ready GIQP e = absurd (judged-by (giqp o body) d e)
-  effect-ready GCF e = absurd (judged-by (gcf o body) d e)
-  effect-ready GRG e = absurd (judged-by (grg o body) d e)
-  effect-ready SOFH e = absurd (judged-by (sofh o body) d e)
-  effect-ready EOFH e = absurd (judged-by (empty body) d e)
-  effect-ready IQDC e = absurd (judged-by (empty body) d e)
-  effect-ready TEXT e = absurd (judged-by (text o body) d e)
-  effect-ready Unknown e = let z : _≡_ {A = ℕ} 0 1 = cc in absurd (omega arith)
+  shape-ready : (shape : Shape) (a : Answer Data) → (a ≡ gives d → length body ≡ 8 + d .samples * sampleBytes shape) →
+      sampled shape a s .says ≡ ready d → IsReady (Samples shape) body d s (sampled shape a s .shown)
+  shape-ready ShortPairs a q e = single-ready ShortPairs a (s .values .packing .present) (s .values .rate .present) true q tt e
+  shape-ready ShortReals a q e = single-ready ShortReals a true (s .values .rate .present) true q tt e
+  shape-ready ShortGroup a q e = group-ready ShortGroup a (ltb 0 (s .values .group .n)) (s .values .rate .present) true q (λ h. h) e
+  shape-ready FloatPairs a q e = single-ready FloatPairs a (s .values .packing .present) (s .values .rate .present) (s .values .«float_scale» .present) q tt e
+  shape-ready FloatReals a q e = single-ready FloatReals a true (s .values .rate .present) (s .values .«float_scale» .present) q tt e
+  shape-ready FloatGroup a q e = group-ready FloatGroup a (ltb 0 (s .values .group .n)) (s .values .rate .present) (s .values .«float_scale» .present) q (λ h. h) e
+
+  row-ready : (r : Row) → effectBy r o body s .says ≡ ready d → IsReady (shapedBy r) body d s (effectBy r o body s .shown)
+  row-ready (sets x hold read) e = absurd (judged-by (read o body) d e)
+  row-ready (marks read) e = absurd (judged-by (read o body) d e)
+  row-ready (leaves read) e = absurd (judged-by (read o body) d e)
+  row-ready (samples shape) e = shape-ready shape (dataOf shape o body) (timed-size (sampleBytes shape) o body d) e
+  row-ready Table.unknown e = let z : _≡_ {A = ℕ} 0 1 = cc in absurd (omega arith)
+
+  -- a chunk that is said to be ready
+  pub effect-ready : (k : Kind) → effect o k body s .says ≡ ready d → IsReady (shaped k) body d s (effect o k body s .shown)
+  unfolding effect shaped
+  effect-ready k e = row-ready (row k) e

@@ -8,13 +8,14 @@ use Rattle.num.specs.Answer.{Answer, gives, refuses, then}
 use Rattle.num.specs.Choice.{pick}
 use Rattle.num.specs.declared.Order.{Order}
 use Rattle.body.specs.Kind.{kindOf}
+use Rattle.body.specs.Table.{shaped}
 use Rattle.copy.specs.Samples.{laid}
 use Rattle.effect.specs.Says.{Says, ok, unknown, bad, waits, ready}
-use Rattle.reader.specs.Item.{Item, end, skipped, unfinished, chunk}
+use Rattle.reader.specs.Item.{Item, ofChunk}
 use Rattle.reader.specs.Step.{Step, stepOf}
 use Rattle.reader.specs.declared.Cursor.{Cursor}
 use Rattle.state.specs.declared.State.{State}
-use Rattle.samples.specs.Layout.{shapeOf, layout, numbers, valuesOf}
+use Rattle.samples.specs.Layout.{layout, numbers, valuesOf}
 use Rattle.samples.specs.declared.Layout.{Layout}
 use Rattle.samples.specs.declared.Copied.{Copied}
 use Rattle.samples.specs.declared.Copied.the-variants.{Count, PastEnd, BadState, NotReady, NoChannel, TooShort}
@@ -34,14 +35,11 @@ layoutIn float channel shown ok code = refuses 35
 layoutIn float channel shown unknown code = refuses 35
 layoutIn float channel shown (bad n) code = refuses 35
 layoutIn float channel shown (waits n t) code = refuses 35
-layoutIn float channel shown (ready d) code = layout float (shapeOf (kindOf code)) channel shown d
+layoutIn float channel shown (ready d) code = layout float (shaped (kindOf code)) channel shown d
 
 abbrev pub layoutBy : Bool → ℕ → State → Answer Item → Answer Layout
 layoutBy float channel shown (refuses n) = refuses n
-layoutBy float channel shown (gives end) = refuses 35
-layoutBy float channel shown (gives (skipped p n)) = refuses 35
-layoutBy float channel shown (gives (unfinished p n)) = refuses 35
-layoutBy float channel shown (gives (chunk p code size says)) = layoutIn float channel shown says code
+layoutBy float channel shown (gives i) = ofChunk (refuses 35) (λ place code size says. layoutIn float channel shown says code) i
 
 -- numbers 2 and 3 as in a step, then 35, then 34
 unfoldable pub layoutAt : Bool → Order → List ℕ → Cursor → ℕ → Answer Layout
@@ -59,10 +57,7 @@ countOf float o s c channel room = then (layoutAt float o s c channel) (counted 
 -- the sample bytes of the chunk that a step would give: after its header and its time, up to its end
 abbrev pub samplesBy : Answer Item → List ℕ → List ℕ
 samplesBy (refuses n) l = []
-samplesBy (gives end) l = []
-samplesBy (gives (skipped p n)) l = []
-samplesBy (gives (unfinished p n)) l = []
-samplesBy (gives (chunk p code size says)) l = take (size - 8) (drop 20 l)
+samplesBy (gives i) l = ofChunk [] (λ place code size says. take (size - 8) (drop 20 l)) i
 
 abbrev pub samplesAt : Order → List ℕ → Cursor → List ℕ
 samplesAt o s c = samplesBy (stepOf o s c .item) (drop (c .place) s)

@@ -8,41 +8,15 @@ use Rattle.num.specs.Answer.{Answer, gives, refuses}
 use Rattle.num.specs.Choice.{pick}
 use Rattle.body.specs.Groups.{isNumber}
 use Rattle.body.specs.declared.data.Data.{Data}
-use Rattle.body.specs.declared.kind.Kind.{Kind}
-use Rattle.body.specs.declared.kind.Kind.the-variants.{SSNC, SSNR, SFNC, SFNR, GSNC, GFNC, SIQP, SR, BW, GCBW, BWOF, CF, DBFS, DBTG, FFS, GIQP, GCF, GRG, SOFH, EOFH, IQDC, TEXT, Unknown}
+use Rattle.body.specs.declared.data.Shape.{Shape}
+use Rattle.body.specs.declared.data.Shape.the-variants.{ShortPairs, ShortReals, ShortGroup, FloatPairs, FloatReals, FloatGroup}
+use Rattle.body.specs.declared.data.Shaped.{Shaped}
+use Rattle.body.specs.declared.data.Shaped.the-variants.{Samples, NoSamples}
 use Rattle.copy.specs.Samples.{pairsOf, realsOf}
 use Rattle.state.specs.declared.State.{State}
 use Rattle.samples.specs.declared.Laid.{Laid}
 use Rattle.samples.specs.declared.Laid.the-variants.{At, NoChannel, NotReady}
 use Rattle.samples.specs.declared.Layout.{Layout}
-use Rattle.samples.specs.declared.Shape.{Shape}
-use Rattle.samples.specs.declared.Shape.the-variants.{ShortPairs, ShortReals, ShortGroup, FloatPairs, FloatReals, FloatGroup, NoData}
-
--- what the samples of each kind are
-unfoldable pub shapeOf : Kind → Shape
-shapeOf SSNC = ShortPairs
-shapeOf SSNR = ShortReals
-shapeOf SFNC = FloatPairs
-shapeOf SFNR = FloatReals
-shapeOf GSNC = ShortGroup
-shapeOf GFNC = FloatGroup
-shapeOf SIQP = NoData
-shapeOf SR = NoData
-shapeOf BW = NoData
-shapeOf GCBW = NoData
-shapeOf BWOF = NoData
-shapeOf CF = NoData
-shapeOf DBFS = NoData
-shapeOf DBTG = NoData
-shapeOf FFS = NoData
-shapeOf GIQP = NoData
-shapeOf GCF = NoData
-shapeOf GRG = NoData
-shapeOf SOFH = NoData
-shapeOf EOFH = NoData
-shapeOf IQDC = NoData
-shapeOf TEXT = NoData
-shapeOf Unknown = NoData
 
 -- the shape is of the width that is asked for: 32-bit patterns of floats, or 16-bit numbers
 abbrev pub hasWidth : Bool → Shape → Bool
@@ -52,7 +26,6 @@ hasWidth float ShortGroup = not float
 hasWidth float FloatPairs = float
 hasWidth float FloatReals = float
 hasWidth float FloatGroup = float
-hasWidth float NoData = false
 
 -- a single channel is channel 0, and there is no other: number 34
 abbrev pub alone : ℕ → Layout → Answer Layout
@@ -60,7 +33,7 @@ alone channel l = pick (eqb channel 0) (gives l) (refuses 34)
 
 -- pairs packed as SIQP says, or reals
 abbrev pub paired : State → Data → Layout
-paired s d = record { pairs = true; iq = isNumber 1 (s .packing .value); first = 0; step = 1; count = d .samples }
+paired s d = record { pairs = true; iq = isNumber 1 (s .values .packing .value); first = 0; step = 1; count = d .samples }
 
 abbrev pub real : Data → Layout
 real d = record { pairs = false; iq = false; first = 0; step = 1; count = d .samples }
@@ -69,14 +42,14 @@ real d = record { pairs = false; iq = false; first = 0; step = 1; count = d .sam
 abbrev pub member : ℕ → State → Data → Layout
 member channel s d = record {
   pairs = true;
-  iq = s .group .iq;
-  first = getD (s .group .offsets) channel 0;
-  step = s .group .increment;
-  count = d .samples / s .group .n;
+  iq = s .values .group .iq;
+  first = getD (s .values .group .offsets) channel 0;
+  step = s .values .group .increment;
+  count = d .samples / s .values .group .n;
 }
 
 abbrev pub oneOf : ℕ → State → Data → Answer Layout
-oneOf channel s d = pick (ltb channel (s .group .n)) (gives (member channel s d)) (refuses 34)
+oneOf channel s d = pick (ltb channel (s .values .group .n)) (gives (member channel s d)) (refuses 34)
 
 abbrev pub arranged : Shape → ℕ → State → Data → Answer Layout
 arranged ShortPairs channel s d = alone channel (paired s d)
@@ -85,11 +58,11 @@ arranged ShortGroup channel s d = oneOf channel s d
 arranged FloatPairs channel s d = alone channel (paired s d)
 arranged FloatReals channel s d = alone channel (real d)
 arranged FloatGroup channel s d = oneOf channel s d
-arranged NoData channel s d = refuses 35
 
--- number 35 unless the chunk is of the width; then number 34 unless it has the channel
-abbrev pub layout : Bool → Shape → ℕ → State → Data → Answer Layout
-layout float shape channel s d = pick (hasWidth float shape) (arranged shape channel s d) (refuses 35)
+-- number 35 unless the chunk is data of the width; then number 34 unless it has the channel
+abbrev pub layout : Bool → Shaped → ℕ → State → Data → Answer Layout
+layout float (Samples shape) channel s d = pick (hasWidth float shape) (arranged shape channel s d) (refuses 35)
+layout float NoSamples channel s d = refuses 35
 
 abbrev pub laidSaid : Laid → Answer Layout
 laidSaid (At l) = gives l

@@ -4,16 +4,18 @@ pub mod shorts;
 
 ghost use mathlib.Core.Path.{_≡_};
 ghost use lib.ListN.{getD};
-ghost use Rattle.samples.specs.Layout.{shapeOf, hasWidth, alone, paired, real, oneOf, arranged, layout, laidSaid};
+ghost use Rattle.samples.specs.Layout.{hasWidth, alone, paired, real, oneOf, arranged, layout, laidSaid};
 ghost use Rattle.body.specs.Kind.{kindOf};
 ghost use Rattle.effect.specs.Effect.{effect};
 ghost use Rattle.reader.specs.Step.{before};
 ghost use Rattle.samples.specs.Plan.{plannedSaid, sizedBy, layoutOf, Sound};
 ghost use Rattle.samples.specs.Copy.{layoutAt};
+use body::data;
 use body::data::Data;
-use body::kind::Kind;
+use body::data::Shape;
+use body::data::Shaped;
 use effect::ask::Asked;
-use frame::At;
+use frame::Ahead;
 use num::Order;
 use reader::Cursor;
 use state::State;
@@ -26,17 +28,6 @@ pub struct Layout {
     pub first: usize,
     pub step: usize,
     pub count: usize,
-}
-
-// What the samples of a kind are.
-pub enum Shape {
-    ShortPairs,
-    ShortReals,
-    ShortGroup,
-    FloatPairs,
-    FloatReals,
-    FloatGroup,
-    NoData,
 }
 
 pub enum Laid {
@@ -69,36 +60,6 @@ pub enum Copied {
     TooShort,
 }
 
-fn shape_of(kind: Kind) -> Shape
-    ensures { λ r. ⌜ r ≡ shapeOf kind ⌝ }
-{
-    match kind {
-        Kind::SSNC => Shape::ShortPairs,
-        Kind::SSNR => Shape::ShortReals,
-        Kind::GSNC => Shape::ShortGroup,
-        Kind::SFNC => Shape::FloatPairs,
-        Kind::SFNR => Shape::FloatReals,
-        Kind::GFNC => Shape::FloatGroup,
-        Kind::SIQP => Shape::NoData,
-        Kind::SR => Shape::NoData,
-        Kind::BW => Shape::NoData,
-        Kind::GCBW => Shape::NoData,
-        Kind::BWOF => Shape::NoData,
-        Kind::CF => Shape::NoData,
-        Kind::DBFS => Shape::NoData,
-        Kind::DBTG => Shape::NoData,
-        Kind::FFS => Shape::NoData,
-        Kind::GIQP => Shape::NoData,
-        Kind::GCF => Shape::NoData,
-        Kind::GRG => Shape::NoData,
-        Kind::SOFH => Shape::NoData,
-        Kind::EOFH => Shape::NoData,
-        Kind::IQDC => Shape::NoData,
-        Kind::TEXT => Shape::NoData,
-        Kind::Unknown => Shape::NoData,
-    }
-}
-
 fn has_width(float: bool, shape: Shape) -> bool
     ensures { λ r. ⌜ r ≡ hasWidth float shape ⌝ }
 {
@@ -109,7 +70,6 @@ fn has_width(float: bool, shape: Shape) -> bool
         Shape::FloatPairs => float,
         Shape::FloatReals => float,
         Shape::FloatGroup => float,
-        Shape::NoData => false,
     }
 }
 
@@ -126,7 +86,7 @@ fn alone(channel: usize, layout: Layout) -> Laid
 fn paired(shown: State, d: Data) -> Layout
     ensures { λ r. ⌜ r ≡ paired shown d ⌝ }
 {
-    let packing = shown.packing;
+    let packing = shown.values.packing;
     Layout {
         pairs: true,
         iq: packing.value == 1,
@@ -162,7 +122,7 @@ fn offset_at(offsets: [u32; 16], channel: usize) -> usize
 fn one_of(channel: usize, shown: State, d: Data) -> Laid
     ensures { λ r. ⌜ laidSaid r ≡ oneOf channel shown d ⌝ }
 {
-    let group = shown.group;
+    let group = shown.values.group;
     let n = group.n;
     if channel >= n {
         return Laid::NoChannel;
@@ -187,18 +147,22 @@ fn arranged(shape: Shape, channel: usize, shown: State, d: Data) -> Laid
         Shape::FloatPairs => alone(channel, paired(shown, d)),
         Shape::FloatReals => alone(channel, real(d)),
         Shape::FloatGroup => one_of(channel, shown, d),
-        Shape::NoData => Laid::NotReady,
     }
 }
 
 // Where a channel of a ready chunk lies, if the chunk is of the width.
-fn laid_out(float: bool, shape: Shape, channel: usize, shown: State, d: Data) -> Laid
-    ensures { λ r. ⌜ laidSaid r ≡ layout float shape channel shown d ⌝ }
+fn laid_out(float: bool, shaped: Shaped, channel: usize, shown: State, d: Data) -> Laid
+    ensures { λ r. ⌜ laidSaid r ≡ layout float shaped channel shown d ⌝ }
 {
-    if has_width(float, shape) {
-        arranged(shape, channel, shown, d)
-    } else {
-        Laid::NotReady
+    match shaped {
+        Shaped::Samples(shape) => {
+            if has_width(float, shape) {
+                arranged(shape, channel, shown, d)
+            } else {
+                Laid::NotReady
+            }
+        }
+        Shaped::NoSamples => Laid::NotReady,
     }
 }
 
@@ -219,7 +183,7 @@ fn in_chunk(
     let state = cursor.state;
     let kind = body::kind::kind_of(code);
     match effect::ask::ready_data(order, kind, body, state) {
-        Asked::Ready(d) => laid_out(float, shape_of(kind), channel, state, d),
+        Asked::Ready(d) => laid_out(float, data::shape_of(kind), channel, state, d),
         Asked::NotReady => Laid::NotReady,
     }
 }
@@ -232,26 +196,20 @@ fn plan(order: Order, s: &[u8], cursor: Cursor, channel: usize, float: bool) -> 
     if s.len() < at {
         return Planned::PastEnd;
     }
-    let state = cursor.state;
+    let values = cursor.state.values;
     // The two halves of the test are short enough to be inlined one by one.
-    if cursor.in_step & !(state.good_values() & state.good_lists()) {
+    if cursor.in_step & !(values.good_values() & values.good_lists()) {
         return Planned::BadState;
     }
-    if at == s.len() {
+    let Ahead::Chunk { code, size } = frame::ahead_of(order, s, at) else {
         return Planned::NotReady;
-    }
-    match frame::look(order, s, at) {
-        At::Complete { code, size } => {
-            let from = at + 12;
-            let to = from + size;
-            sized(
-                in_chunk(order, code, &s[from..to], cursor, channel, float),
-                size,
-            )
-        }
-        At::Unfinished => Planned::NotReady,
-        At::NoSync | At::Bad => Planned::NotReady,
-    }
+    };
+    let from = at + 12;
+    let to = from + size;
+    sized(
+        in_chunk(order, code, &s[from..to], cursor, channel, float),
+        size,
+    )
 }
 
 fn sized(laid: Laid, size: usize) -> Planned

@@ -3,15 +3,15 @@ use crate::put;
 use body::group::GroupGains;
 use body::group::GroupHertz;
 use body::group::GroupPacking;
+use body::value::BandHeld;
+use body::value::Held;
+use body::value::LevelHeld;
 use listing::Label;
 use listing::words::decimal;
 use listing::words::hex_word;
 use listing::words::label;
 use listing::words::newline;
 use listing::words::number;
-use state::BandHeld;
-use state::Held;
-use state::LevelHeld;
 use state::State;
 
 // The start mark, then each value, in the order of the kinds.
@@ -19,17 +19,18 @@ pub(crate) fn all(state: State) {
     put(label(Label::Mark));
     flag(state.mark);
     put(newline());
-    held(Label::Packing, state.packing);
-    held(Label::Rate, state.rate);
-    band(state.band);
-    held(Label::GroupBandwidth, state.group_band);
-    held(Label::Frequency, state.centre);
-    level(Label::FullScale, state.full_scale);
-    level(Label::TotalGain, state.total_gain);
-    level(Label::FloatScale, state.float_scale);
-    packing(state.group);
-    hertz(state.frequencies);
-    gains(state.gains);
+    let values = state.values;
+    held(Label::Packing, values.packing);
+    held(Label::Rate, values.rate);
+    band(values.band);
+    held(Label::GroupBandwidth, values.group_band);
+    held(Label::Frequency, values.centre);
+    level(Label::FullScale, values.full_scale);
+    level(Label::TotalGain, values.total_gain);
+    level(Label::FloatScale, values.float_scale);
+    packing(values.group);
+    hertz(values.frequencies);
+    gains(values.gains);
 }
 
 // 1 or 0.

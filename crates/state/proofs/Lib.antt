@@ -1,3 +1,4 @@
 pub mod Laws
+pub mod Slots
 pub mod Tests
 pub mod Reach

@@ -9,12 +9,14 @@ use lib.IntN.{ℤ, pos, negsuc}
 use lib.Signed.{leZ}
 use Rattle.num.specs.Choice.{pick, both, either}
 use Rattle.body.specs.Levels.{isFinite}
+use Rattle.body.specs.Table.{Slot, packing, rate, band, groupBand, centre, fullScale, totalGain, floatScale, group, frequencies, gains, Value}
 use Rattle.body.specs.declared.group.GroupPacking.{GroupPacking}
 use Rattle.body.specs.declared.group.GroupHertz.{GroupHertz}
 use Rattle.body.specs.declared.group.GroupGains.{GroupGains}
-use Rattle.state.specs.declared.Held.{Held}
-use Rattle.state.specs.declared.BandHeld.{BandHeld}
-use Rattle.state.specs.declared.LevelHeld.{LevelHeld}
+use Rattle.body.specs.declared.value.Held.{Held}
+use Rattle.body.specs.declared.value.BandHeld.{BandHeld}
+use Rattle.body.specs.declared.value.LevelHeld.{LevelHeld}
+use Rattle.state.specs.declared.Values.{Values}
 use Rattle.state.specs.declared.State.{State}
 
 -- the integer is 0
@@ -83,37 +85,40 @@ goodFrequencies g = goodList anyNumber isZero (g .n) (g .values)
 abbrev pub goodGains : GroupGains → Bool
 goodGains g = goodList isFinite isPlusZero (g .n) (g .values)
 
--- every part is good; the mark may be set or not
-unfoldable pub goodState : State → Bool
-goodState s =
-    goodNumber zeroOrOne (s .packing)
-    && goodNumber (leZ (pos 1)) (s .rate)
-    && goodBand (s .band)
-    && goodNumber (leZ (pos 0)) (s .«group_band»)
-    && goodNumber anyNumber (s .centre)
-    && goodLevel isFinite (s .«full_scale»)
-    && goodLevel isFinite (s .«total_gain»)
-    && goodLevel scale (s .«float_scale»)
-    && goodGroup (s .group)
-    && goodFrequencies (s .frequencies)
-    && goodGains (s .gains)
+-- what a slot may hold: what a well-formed chunk sets there, or what stands for its absence
+abbrev pub goodIn : (x : Slot) → Value x → Bool
+goodIn packing h = goodNumber zeroOrOne h
+goodIn rate h = goodNumber (leZ (pos 1)) h
+goodIn band b = goodBand b
+goodIn groupBand h = goodNumber (leZ (pos 0)) h
+goodIn centre h = goodNumber anyNumber h
+goodIn fullScale x = goodLevel isFinite x
+goodIn totalGain x = goodLevel isFinite x
+goodIn floatScale x = goodLevel scale x
+goodIn group g = goodGroup g
+goodIn frequencies g = goodFrequencies g
+goodIn gains g = goodGains g
 
 -- the values that are no lists are good, and so is the head of the group packing
-unfoldable pub goodValues : State → Bool
-goodValues s =
-    goodNumber zeroOrOne (s .packing)
-    && goodNumber (leZ (pos 1)) (s .rate)
-    && goodBand (s .band)
-    && goodNumber (leZ (pos 0)) (s .«group_band»)
-    && goodNumber anyNumber (s .centre)
-    && goodLevel isFinite (s .«full_scale»)
-    && goodLevel isFinite (s .«total_gain»)
-    && goodLevel scale (s .«float_scale»)
-    && goodHead (s .group)
+unfoldable pub goodValues : Values → Bool
+goodValues v =
+    goodIn packing (v .packing)
+    && goodIn rate (v .rate)
+    && goodIn band (v .band)
+    && goodIn groupBand (v .«group_band»)
+    && goodIn centre (v .centre)
+    && goodIn fullScale (v .«full_scale»)
+    && goodIn totalGain (v .«total_gain»)
+    && goodIn floatScale (v .«float_scale»)
+    && goodHead (v .group)
 
 -- the three lists are good
-unfoldable pub goodLists : State → Bool
-goodLists s =
-    goodList offset nothing (s .group .n) (s .group .offsets)
-    && goodFrequencies (s .frequencies)
-    && goodGains (s .gains)
+unfoldable pub goodLists : Values → Bool
+goodLists v =
+    goodList offset nothing (v .group .n) (v .group .offsets)
+    && goodIn frequencies (v .frequencies)
+    && goodIn gains (v .gains)
+
+-- every value is good; the mark may be set or not
+abbrev pub goodState : State → Bool
+goodState s = both (goodValues (s .values)) (goodLists (s .values))

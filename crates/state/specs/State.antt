@@ -1,76 +1,60 @@
--- The channel state, empty and with one value changed.
-use mathlib.Core.Bool.{Bool, false}
-use lib.Ieee.{binary32, ofBits}
-use lib.IntN.{pos}
-use Rattle.body.specs.Groups.{noPacking, noHertz, noGains}
-use Rattle.body.specs.declared.group.GroupPacking.{GroupPacking}
-use Rattle.body.specs.declared.group.GroupHertz.{GroupHertz}
-use Rattle.body.specs.declared.group.GroupGains.{GroupGains}
-use Rattle.state.specs.declared.Held.{Held}
-use Rattle.state.specs.declared.BandHeld.{BandHeld}
-use Rattle.state.specs.declared.LevelHeld.{LevelHeld}
+-- The channel state: a value in each slot, and the start mark.
+use mathlib.Core.Bool.{Bool}
+use Rattle.body.specs.Table.{Slot, packing, rate, band, groupBand, centre, fullScale, totalGain, floatScale, group, frequencies, gains, Value, none}
+use Rattle.state.specs.declared.Values.{Values}
 use Rattle.state.specs.declared.State.{State}
 
--- an absent value is 0; for a float, the value whose pattern is 0
-abbrev pub noNumber : Held
-noNumber = record { present = false; value = pos 0 }
+-- the value in a slot
+abbrev pub valueIn : (x : Slot) → Values → Value x
+valueIn packing v = v .packing
+valueIn rate v = v .rate
+valueIn band v = v .band
+valueIn groupBand v = v .«group_band»
+valueIn centre v = v .centre
+valueIn fullScale v = v .«full_scale»
+valueIn totalGain v = v .«total_gain»
+valueIn floatScale v = v .«float_scale»
+valueIn group v = v .group
+valueIn frequencies v = v .frequencies
+valueIn gains v = v .gains
 
-abbrev pub noBand : BandHeld
-noBand = record { present = false; width = pos 0; offset = pos 0 }
+-- values with that of one slot put anew
+abbrev pub putIn : (x : Slot) → Value x → Values → Values
+putIn packing a v = record { packing = a; rate = v .rate; band = v .band; «group_band» = v .«group_band»; centre = v .centre; «full_scale» = v .«full_scale»; «total_gain» = v .«total_gain»; «float_scale» = v .«float_scale»; group = v .group; frequencies = v .frequencies; gains = v .gains }
+putIn rate a v = record { packing = v .packing; rate = a; band = v .band; «group_band» = v .«group_band»; centre = v .centre; «full_scale» = v .«full_scale»; «total_gain» = v .«total_gain»; «float_scale» = v .«float_scale»; group = v .group; frequencies = v .frequencies; gains = v .gains }
+putIn band a v = record { packing = v .packing; rate = v .rate; band = a; «group_band» = v .«group_band»; centre = v .centre; «full_scale» = v .«full_scale»; «total_gain» = v .«total_gain»; «float_scale» = v .«float_scale»; group = v .group; frequencies = v .frequencies; gains = v .gains }
+putIn groupBand a v = record { packing = v .packing; rate = v .rate; band = v .band; «group_band» = a; centre = v .centre; «full_scale» = v .«full_scale»; «total_gain» = v .«total_gain»; «float_scale» = v .«float_scale»; group = v .group; frequencies = v .frequencies; gains = v .gains }
+putIn centre a v = record { packing = v .packing; rate = v .rate; band = v .band; «group_band» = v .«group_band»; centre = a; «full_scale» = v .«full_scale»; «total_gain» = v .«total_gain»; «float_scale» = v .«float_scale»; group = v .group; frequencies = v .frequencies; gains = v .gains }
+putIn fullScale a v = record { packing = v .packing; rate = v .rate; band = v .band; «group_band» = v .«group_band»; centre = v .centre; «full_scale» = a; «total_gain» = v .«total_gain»; «float_scale» = v .«float_scale»; group = v .group; frequencies = v .frequencies; gains = v .gains }
+putIn totalGain a v = record { packing = v .packing; rate = v .rate; band = v .band; «group_band» = v .«group_band»; centre = v .centre; «full_scale» = v .«full_scale»; «total_gain» = a; «float_scale» = v .«float_scale»; group = v .group; frequencies = v .frequencies; gains = v .gains }
+putIn floatScale a v = record { packing = v .packing; rate = v .rate; band = v .band; «group_band» = v .«group_band»; centre = v .centre; «full_scale» = v .«full_scale»; «total_gain» = v .«total_gain»; «float_scale» = a; group = v .group; frequencies = v .frequencies; gains = v .gains }
+putIn group a v = record { packing = v .packing; rate = v .rate; band = v .band; «group_band» = v .«group_band»; centre = v .centre; «full_scale» = v .«full_scale»; «total_gain» = v .«total_gain»; «float_scale» = v .«float_scale»; group = a; frequencies = v .frequencies; gains = v .gains }
+putIn frequencies a v = record { packing = v .packing; rate = v .rate; band = v .band; «group_band» = v .«group_band»; centre = v .centre; «full_scale» = v .«full_scale»; «total_gain» = v .«total_gain»; «float_scale» = v .«float_scale»; group = v .group; frequencies = a; gains = v .gains }
+putIn gains a v = record { packing = v .packing; rate = v .rate; band = v .band; «group_band» = v .«group_band»; centre = v .centre; «full_scale» = v .«full_scale»; «total_gain» = v .«total_gain»; «float_scale» = v .«float_scale»; group = v .group; frequencies = v .frequencies; gains = a }
 
-abbrev pub noLevel : LevelHeld
-noLevel = record { present = false; value = ofBits binary32 0 }
+-- values given slot by slot
+abbrev pub built : ((x : Slot) → Value x) → Values
+built f = record {
+  packing = f packing;
+  rate = f rate;
+  band = f band;
+  «group_band» = f groupBand;
+  centre = f centre;
+  «full_scale» = f fullScale;
+  «total_gain» = f totalGain;
+  «float_scale» = f floatScale;
+  group = f group;
+  frequencies = f frequencies;
+  gains = f gains;
+}
 
 -- no value is present
 abbrev pub emptied : Bool → State
-emptied mark = record {
-  packing = noNumber;
-  rate = noNumber;
-  band = noBand;
-  «group_band» = noNumber;
-  centre = noNumber;
-  «full_scale» = noLevel;
-  «total_gain» = noLevel;
-  «float_scale» = noLevel;
-  group = noPacking;
-  frequencies = noHertz;
-  gains = noGains;
-  mark = mark;
-}
+emptied mark = record { values = built none; mark = mark }
 
--- a state with one of its values put anew
-abbrev pub withPacking : State → Held → State
-withPacking s x = record { packing = x; rate = s .rate; band = s .band; «group_band» = s .«group_band»; centre = s .centre; «full_scale» = s .«full_scale»; «total_gain» = s .«total_gain»; «float_scale» = s .«float_scale»; group = s .group; frequencies = s .frequencies; gains = s .gains; mark = s .mark }
-
-abbrev pub withRate : State → Held → State
-withRate s x = record { packing = s .packing; rate = x; band = s .band; «group_band» = s .«group_band»; centre = s .centre; «full_scale» = s .«full_scale»; «total_gain» = s .«total_gain»; «float_scale» = s .«float_scale»; group = s .group; frequencies = s .frequencies; gains = s .gains; mark = s .mark }
-
-abbrev pub withBand : State → BandHeld → State
-withBand s x = record { packing = s .packing; rate = s .rate; band = x; «group_band» = s .«group_band»; centre = s .centre; «full_scale» = s .«full_scale»; «total_gain» = s .«total_gain»; «float_scale» = s .«float_scale»; group = s .group; frequencies = s .frequencies; gains = s .gains; mark = s .mark }
-
-abbrev pub withGroupBand : State → Held → State
-withGroupBand s x = record { packing = s .packing; rate = s .rate; band = s .band; «group_band» = x; centre = s .centre; «full_scale» = s .«full_scale»; «total_gain» = s .«total_gain»; «float_scale» = s .«float_scale»; group = s .group; frequencies = s .frequencies; gains = s .gains; mark = s .mark }
-
-abbrev pub withCentre : State → Held → State
-withCentre s x = record { packing = s .packing; rate = s .rate; band = s .band; «group_band» = s .«group_band»; centre = x; «full_scale» = s .«full_scale»; «total_gain» = s .«total_gain»; «float_scale» = s .«float_scale»; group = s .group; frequencies = s .frequencies; gains = s .gains; mark = s .mark }
-
-abbrev pub withFullScale : State → LevelHeld → State
-withFullScale s x = record { packing = s .packing; rate = s .rate; band = s .band; «group_band» = s .«group_band»; centre = s .centre; «full_scale» = x; «total_gain» = s .«total_gain»; «float_scale» = s .«float_scale»; group = s .group; frequencies = s .frequencies; gains = s .gains; mark = s .mark }
-
-abbrev pub withTotalGain : State → LevelHeld → State
-withTotalGain s x = record { packing = s .packing; rate = s .rate; band = s .band; «group_band» = s .«group_band»; centre = s .centre; «full_scale» = s .«full_scale»; «total_gain» = x; «float_scale» = s .«float_scale»; group = s .group; frequencies = s .frequencies; gains = s .gains; mark = s .mark }
-
-abbrev pub withFloatScale : State → LevelHeld → State
-withFloatScale s x = record { packing = s .packing; rate = s .rate; band = s .band; «group_band» = s .«group_band»; centre = s .centre; «full_scale» = s .«full_scale»; «total_gain» = s .«total_gain»; «float_scale» = x; group = s .group; frequencies = s .frequencies; gains = s .gains; mark = s .mark }
-
-abbrev pub withGroup : State → GroupPacking → State
-withGroup s x = record { packing = s .packing; rate = s .rate; band = s .band; «group_band» = s .«group_band»; centre = s .centre; «full_scale» = s .«full_scale»; «total_gain» = s .«total_gain»; «float_scale» = s .«float_scale»; group = x; frequencies = s .frequencies; gains = s .gains; mark = s .mark }
-
-abbrev pub withFrequencies : State → GroupHertz → State
-withFrequencies s x = record { packing = s .packing; rate = s .rate; band = s .band; «group_band» = s .«group_band»; centre = s .centre; «full_scale» = s .«full_scale»; «total_gain» = s .«total_gain»; «float_scale» = s .«float_scale»; group = s .group; frequencies = x; gains = s .gains; mark = s .mark }
-
-abbrev pub withGains : State → GroupGains → State
-withGains s x = record { packing = s .packing; rate = s .rate; band = s .band; «group_band» = s .«group_band»; centre = s .centre; «full_scale» = s .«full_scale»; «total_gain» = s .«total_gain»; «float_scale» = s .«float_scale»; group = s .group; frequencies = s .frequencies; gains = x; mark = s .mark }
+-- a state with its values or its mark put anew
+abbrev pub withValues : State → Values → State
+withValues s v = record { values = v; mark = s .mark }
 
 abbrev pub withMark : State → Bool → State
-withMark s x = record { packing = s .packing; rate = s .rate; band = s .band; «group_band» = s .«group_band»; centre = s .centre; «full_scale» = s .«full_scale»; «total_gain» = s .«total_gain»; «float_scale» = s .«float_scale»; group = s .group; frequencies = s .frequencies; gains = s .gains; mark = x }
+withMark s m = record { values = s .values; mark = m }

@@ -4,14 +4,14 @@ ghost use lib.Signed.{leZ};
 ghost use lib.Dec.{ltb, leb};
 ghost use Rattle.num.specs.Choice.{pick, both};
 ghost use Rattle.body.specs.Levels.{isFinite};
-ghost use Rattle.state.specs.Good.{isZero, isPlusZero, zeroOrOne, anyNumber, scale, offset, nothing, goodNumber, goodBand, goodLevel, goodFrom, goodHead, goodState, goodValues, goodLists};
-use crate::BandHeld;
-use crate::Held;
-use crate::LevelHeld;
-use crate::State;
+ghost use Rattle.state.specs.Good.{isZero, isPlusZero, zeroOrOne, anyNumber, scale, offset, nothing, goodNumber, goodBand, goodLevel, goodFrom, goodHead, goodValues, goodLists};
+use crate::Values;
 use body::group::GroupGains;
 use body::group::GroupHertz;
 use body::group::GroupPacking;
+use body::value::BandHeld;
+use body::value::Held;
+use body::value::LevelHeld;
 
 // a where the test holds, b where it does not.
 fn chosen(test: bool, a: bool, b: bool) -> bool
@@ -179,7 +179,7 @@ fn good_list(n: usize, listed: bool) -> bool
     (n <= 16) & listed
 }
 
-impl State {
+impl Values {
     // The values that are no lists, and the head of the group packing.
     pub fn good_values(self) -> bool
         ensures { λ r. ⌜ r ≡ goodValues self ⌝ }
@@ -207,12 +207,5 @@ impl State {
         good_list(group.n, lists.offsets)
             & good_list(frequencies.n, lists.hertz)
             & good_list(gains.n, lists.gains)
-    }
-
-    // Whether a reader in step takes this state; one that is not good is refused with number 3.
-    pub fn good(self) -> bool
-        ensures { λ r. ⌜ r ≡ goodState self ⌝ }
-    {
-        self.good_values() & self.good_lists()
     }
 }

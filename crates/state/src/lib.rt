@@ -1,33 +1,19 @@
 // The channel state: the values that chunks have set, by value.
 ghost use mathlib.Core.Path.{_≡_};
-ghost use Rattle.state.specs.State.{noNumber, noLevel, emptied};
+ghost use Rattle.body.specs.Table.{none};
+ghost use Rattle.state.specs.State.{built, emptied, withValues, withMark};
 use body::group::GroupGains;
 use body::group::GroupHertz;
 use body::group::GroupPacking;
+use body::value;
+use body::value::BandHeld;
+use body::value::Held;
+use body::value::LevelHeld;
 
 pub mod good;
 
-// A whole number, absent or present. Absent, it is 0.
-pub struct Held {
-    pub present: bool,
-    pub value: i64,
-}
-
-// A bandwidth and its offset, absent or present together.
-pub struct BandHeld {
-    pub present: bool,
-    pub width: i64,
-    pub offset: i64,
-}
-
-// A level, absent or present. Absent, it is +0.
-pub struct LevelHeld {
-    pub present: bool,
-    pub value: f32,
-}
-
-// What the chunks so far have set, and the start mark.
-pub struct State {
+// What the chunks so far have set.
+pub struct Values {
     // SIQP: 1 for I before Q
     pub packing: Held,
     // SR__, in µHz
@@ -50,26 +36,13 @@ pub struct State {
     pub frequencies: GroupHertz,
     // GRG_
     pub gains: GroupGains,
+}
+
+// The values, and the start mark.
+pub struct State {
+    pub values: Values,
     // the next samples do not follow on from those before
     pub mark: bool,
-}
-
-fn no_number() -> Held
-    ensures { λ r. ⌜ r ≡ noNumber ⌝ }
-{
-    Held {
-        present: false,
-        value: 0,
-    }
-}
-
-fn no_level() -> LevelHeld
-    ensures { λ r. ⌜ r ≡ noLevel ⌝ }
-{
-    LevelHeld {
-        present: false,
-        value: 0.0,
-    }
 }
 
 fn number_anew(h: Held) -> Held
@@ -112,15 +85,15 @@ fn packing_anew(g: GroupPacking) -> GroupPacking
     }
 }
 
-impl State {
-    // The same state, put together from its values. Where a state is copied whole and then read value by value, a compiler
+impl Values {
+    // The same values, each put together from its parts. Where a state is copied whole and then read value by value, a compiler
     // carries the padding between the values along in small pieces; of this copy it carries the values alone.
-    pub fn anew(self) -> Self
+    fn anew(self) -> Self
         ensures { λ r. ⌜ r ≡ self ⌝ }
     {
         let frequencies = self.frequencies;
         let gains = self.gains;
-        State {
+        Values {
             packing: number_anew(self.packing),
             rate: number_anew(self.rate),
             band: band_anew(self.band),
@@ -132,8 +105,53 @@ impl State {
             group: packing_anew(self.group),
             frequencies,
             gains,
+        }
+    }
+
+    // Every value absent.
+    fn none() -> Self
+        ensures { λ r. ⌜ r ≡ built none ⌝ }
+    {
+        Values {
+            packing: value::no_number(),
+            rate: value::no_number(),
+            band: value::no_band(),
+            group_band: value::no_number(),
+            centre: value::no_number(),
+            full_scale: value::no_level(),
+            total_gain: value::no_level(),
+            float_scale: value::no_level(),
+            group: body::group::no_packing(),
+            frequencies: body::group::no_hertz(),
+            gains: body::group::no_gains(),
+        }
+    }
+}
+
+impl State {
+    // The same state, put together from its values.
+    pub fn anew(self) -> Self
+        ensures { λ r. ⌜ r ≡ self ⌝ }
+    {
+        let values = self.values;
+        State {
+            values: values.anew(),
             mark: self.mark,
         }
+    }
+
+    // The state with other values. It is put together from its parts, which is faster than a copy that is then written over.
+    pub fn with_values(self, values: Values) -> Self
+        ensures { λ r. ⌜ r ≡ withValues self values ⌝ }
+    {
+        State { values, ..self }
+    }
+
+    // The state with the start mark, or without.
+    pub fn with_mark(self, mark: bool) -> Self
+        ensures { λ r. ⌜ r ≡ withMark self mark ⌝ }
+    {
+        State { mark, ..self }
     }
 
     // Every value absent; with or without the start mark.
@@ -141,21 +159,7 @@ impl State {
         ensures { λ r. ⌜ r ≡ emptied mark ⌝ }
     {
         State {
-            packing: no_number(),
-            rate: no_number(),
-            band: BandHeld {
-                present: false,
-                width: 0,
-                offset: 0,
-            },
-            group_band: no_number(),
-            centre: no_number(),
-            full_scale: no_level(),
-            total_gain: no_level(),
-            float_scale: no_level(),
-            group: body::group::no_packing(),
-            frequencies: body::group::no_hertz(),
-            gains: body::group::no_gains(),
+            values: Values::none(),
             mark,
         }
     }

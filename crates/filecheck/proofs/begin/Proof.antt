@@ -7,14 +7,15 @@ use lib.ListN.{length, take, drop}
 use Rattle.frame.specs.Place.{shows}
 use Rattle.frame.specs.declared.At.the-variants.{Complete}
 use Rattle.body.specs.Kind.{kindOf}
+use Rattle.frame.proofs.Looks.{is-chunk, other-told}
 use Rattle.reader.proofs.Laws.{chunk-ends, chunk-body}
 use Rattle.filecheck.specs.File.{partOf, wellFormed, begins}
-use Rattle.filecheck.proofs.Laws.{not-header, no-chunk, file-not, file-chunk}
+use Rattle.filecheck.proofs.Laws.{not-header, file-not, file-chunk}
 use Rattle.filecheck.proofs.begin.Statement.{statement}
 use Rattle.filecheck.proofs.begin.Tie as tie
 
-look-requires : tie.Need-look-requires
-look-requires c κs = search needs
+ahead-of-requires : tie.Need-ahead-of-requires
+ahead-of-requires c κs = search needs
 
 enum-known-code : tie.Need-enum-known-code
 enum-known-code c = search needs
@@ -22,8 +23,8 @@ enum-known-code c = search needs
 returns : tie.Need-returns
 returns c =
     let a = c .before .before .before .args in
-    let l = c .before .look in
-    (sym (file-not (a .order) (a .s .now) (no-chunk (a .order) (a .s .now) (l .result) (sym (l .ensures)) (c .match .keys2))), tt)
+    let l = c .before .ahead-of in
+    (sym (file-not (a .order) (a .s .now) (rw (← l .ensures) (other-told (l .result) (c .match .keys2)))), tt)
 
 -- the chunk that was looked at
 abbrev metCode : tie.After-known-told → ℕ
@@ -35,7 +36,9 @@ metSize c = c .before .code .given .0 .1 .0
 told : (c : tie.After-known-told) →
     let a = c .before .before .before .before .before .args in
     shows (a .order) (a .s .now) ≡ Complete (metCode c) (metSize c)
-told c = sym (c .before .before .before .look .ensures) ∙ c .before .code .given .1
+told c =
+    let a = c .before .before .before .before .before .args in
+    is-chunk (a .order) (a .s .now) (metCode c) (metSize c) (sym (c .before .before .before .ahead-of .ensures) ∙ c .before .code .given .1)
 
 ends : (c : tie.After-known-told) →
     let a = c .before .before .before .before .before .args in
@@ -113,7 +116,7 @@ pub begin-spec : {M : Type 1} → statement M
 begin-spec =
     tie.close
     (tie.spec
-    look-requires
+    ahead-of-requires
     enum-known-code
     returns
     add-to

@@ -1,19 +1,22 @@
 -- What stands at the place is the next frame, and each arm is what the rule says of a chunk of that part.
 use Prim.Native.Nat.{ℕ, _+_, _≤_}
+use mathlib.Core.Bool.{false}
 use mathlib.Core.Path.{_≡_, sym, _∙_}
 use native.Mathlib.Omega.{arith}
 use borrow.Author.Needs.{needs}
 use lib.ListN.{length, take, drop}
 use Rattle.frame.specs.Place.{shows}
+use Rattle.frame.specs.Ahead.{aheadOf, isChunk}
 use Rattle.frame.specs.declared.At.the-variants.{Complete}
+use Rattle.frame.proofs.Looks.{is-chunk, other-told}
 use Rattle.reader.proofs.Laws.{chunk-ends, chunk-body}
 use Rattle.filecheck.specs.File.{wellFormed, passes, onward, fileAhead}
-use Rattle.filecheck.proofs.Laws.{no-chunk, ahead-not, ahead-chunk, data-ended, data-early}
+use Rattle.filecheck.proofs.Laws.{ahead-not, ahead-chunk, data-ended, data-early}
 use Rattle.filecheck.proofs.next.Statement.{statement}
 use Rattle.filecheck.proofs.next.Tie as tie
 
-look-requires : tie.Need-look-requires
-look-requires c κs = search needs
+ahead-of-requires : tie.Need-ahead-of-requires
+ahead-of-requires c κs = search needs
 
 enum-known-code : tie.Need-enum-known-code
 enum-known-code c = search needs
@@ -21,8 +24,8 @@ enum-known-code c = search needs
 returns : tie.Need-returns
 returns c =
     let a = c .before .before .before .args in
-    let l = c .before .look in
-    let k = no-chunk (a .order) (drop (a .place) (a .s .now)) (l .result) (sym (l .ensures)) (c .match .keys2) in
+    let l = c .before .ahead-of in
+    let k : isChunk (aheadOf (a .order) (drop (a .place) (a .s .now))) ≡ false = rw (← l .ensures) (other-told (l .result) (c .match .keys2)) in
     record { said = λ n. sym (ahead-not (a .order) (a .s .now) n (a .place) (a .ended) (c .before .before .before .pre) k); on = tt }
 
 -- the chunk that was looked at, its type and its size
@@ -35,7 +38,9 @@ metSize c = c .before .code .given .0 .1 .0
 told : (c : tie.After-known-told) →
     let a = c .before .before .before .before .before .args in
     shows (a .order) (drop (a .place) (a .s .now)) ≡ Complete (metCode c) (metSize c)
-told c = sym (c .before .before .before .look .ensures) ∙ c .before .code .given .1
+told c =
+    let a = c .before .before .before .before .before .args in
+    is-chunk (a .order) (drop (a .place) (a .s .now)) (metCode c) (metSize c) (sym (c .before .before .before .ahead-of .ensures) ∙ c .before .code .given .1)
 
 ends : (c : tie.After-known-told) →
     let a = c .before .before .before .before .before .args in
@@ -141,7 +146,7 @@ pub next-spec : {M : Type 1} → statement M
 next-spec =
     tie.close
     (tie.spec
-    look-requires
+    ahead-of-requires
     enum-known-code
     returns
     add-from

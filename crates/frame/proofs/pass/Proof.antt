@@ -5,11 +5,11 @@ use Rattle.frame.proofs.Free.{free-join}
 use Rattle.frame.proofs.pass.Statement.{statement}
 use Rattle.frame.proofs.pass.Tie as tie
 
-sub-ahead : tie.Need-sub-ahead
-sub-ahead c = search needs
+sub-further : tie.Need-sub-further
+sub-further c = search needs
 
-ahead-requires : tie.Need-ahead-requires
-ahead-requires c κs = search needs
+further-requires : tie.Need-further-requires
+further-requires c κs = search needs
 
 near-requires : tie.Need-near-requires
 near-requires c κs = search needs
@@ -30,4 +30,4 @@ returns-2 c =
 
 pub pass-spec : {M : Type 1} → statement M
 pass-spec =
-    tie.close (tie.spec sub-ahead ahead-requires near-requires returns blocks-requires returns-2)
+    tie.close (tie.spec sub-further further-requires near-requires returns blocks-requires returns-2)

@@ -51,9 +51,6 @@ enum-told-6 c = search needs
 one-of-requires-2 : tie.Need-one-of-requires-2
 one-of-requires-2 c κs = search needs
 
-enum-told-7 : tie.Need-enum-told-7
-enum-told-7 c = search needs
-
 returns : tie.Need-returns
 returns c = rw (c .before .before .enum-told .given .1, ← c .before .paired .ensures) (c .alone .ensures)
 
@@ -71,9 +68,6 @@ returns-5 c = rw (c .before .before .enum-told5 .given .1, ← c .before .real2 
 
 returns-6 : tie.Need-returns-6
 returns-6 c = rw (c .before .enum-told6 .given .1) (c .one-of2 .ensures)
-
-returns-7 : tie.Need-returns-7
-returns-7 c = rw (c .enum-told7 .given .1)
 
 pub arranged-spec : {M : Type 1} → statement M
 arranged-spec =
@@ -95,11 +89,9 @@ arranged-spec =
     alone-requires-4
     enum-told-6
     one-of-requires-2
-    enum-told-7
     returns
     returns-2
     returns-3
     returns-4
     returns-5
-    returns-6
-    returns-7)
+    returns-6)

@@ -9,7 +9,7 @@ use Rattle.samples.proofs.paired.Tie as tie
 
 returns : tie.Need-returns
 returns c =
-    let v = c .before .before .before .args .shown .packing .value in
+    let v = c .before .before .before .args .shown .values .packing .value in
     let back : toZ w64 (ofZ w64 v) ≡ v = search needs in
     rw (one-pattern v back)
 

@@ -1,7 +1,8 @@
 -- Each arm asks the checker of its kind.
-use mathlib.Core.Path.{ap, _∙_}
+use mathlib.Core.Path.{sym, ap, _∙_}
+use Rattle.body.specs.Plain.{empty}
 use Rattle.body.specs.Verdict.{seen, verdict}
-use Rattle.body.proofs.Groups.{seen-read}
+use Rattle.body.proofs.Groups.{seen-read, seen-unit}
 use borrow.Author.Needs.{needs}
 use Rattle.body.proofs.verdict.check.Statement.{statement}
 use Rattle.body.proofs.verdict.check.Tie as tie
@@ -270,11 +271,11 @@ returns-19 c = rw (c .before .before .enum-told19 .given .1) (c .of-number6 .ens
 
 returns-20 : tie.Need-returns-20
 unfolding verdict
-returns-20 c = rw (c .before .enum-told20 .given .1) (c .empty .ensures)
+returns-20 c = rw (c .before .enum-told20 .given .1) (c .empty .ensures ∙ sym (seen-unit (empty (c .before .before .before .before .args .body .now))))
 
 returns-21 : tie.Need-returns-21
 unfolding verdict
-returns-21 c = rw (c .before .enum-told21 .given .1) (c .empty2 .ensures)
+returns-21 c = rw (c .before .enum-told21 .given .1) (c .empty2 .ensures ∙ sym (seen-unit (empty (c .before .before .before .before .args .body .now))))
 
 returns-22 : tie.Need-returns-22
 unfolding verdict

@@ -1,12 +1,13 @@
 -- Each data kind is asked as it takes effect; no other chunk is ready.
-use mathlib.Core.Path.{ap, _∙_}
-use Rattle.body.specs.Numbers.{siqp, sofh, sr, bw, cf, bwof}
-use Rattle.body.specs.Levels.{dbfs, dbtg, ffs}
-use Rattle.body.specs.Groups.{giqp, gcf, grg}
-use Rattle.body.specs.Plain.{empty, text}
+use mathlib.Core.Path.{refl, ap, _∙_}
+use mathlib.Core.List.{[], _∷_}
+use Rattle.body.specs.Kind.{known}
+use Rattle.body.specs.Table.{shaped}
+use Rattle.body.specs.declared.data.Shaped.the-variants.{NoSamples}
+use Rattle.body.proofs.ByKeys.{kindAt, by-keys}
 use Rattle.effect.specs.Effect.{effect}
 use Rattle.effect.specs.Ready.{readyData}
-use Rattle.effect.proofs.Laws.{not-data}
+use Rattle.effect.proofs.Laws.{no-data}
 use borrow.Author.Needs.{needs}
 use Rattle.effect.proofs.ask.ready_data.Statement.{statement}
 use Rattle.effect.proofs.ask.ready_data.Tie as tie
@@ -83,57 +84,6 @@ grouped-requires-2 c κs = search needs
 answer-requires-6 : tie.Need-answer-requires-6
 answer-requires-6 c κs = search needs
 
-enum-told-7 : tie.Need-enum-told-7
-enum-told-7 c = search needs
-
-enum-told-8 : tie.Need-enum-told-8
-enum-told-8 c = search needs
-
-enum-told-9 : tie.Need-enum-told-9
-enum-told-9 c = search needs
-
-enum-told-10 : tie.Need-enum-told-10
-enum-told-10 c = search needs
-
-enum-told-11 : tie.Need-enum-told-11
-enum-told-11 c = search needs
-
-enum-told-12 : tie.Need-enum-told-12
-enum-told-12 c = search needs
-
-enum-told-13 : tie.Need-enum-told-13
-enum-told-13 c = search needs
-
-enum-told-14 : tie.Need-enum-told-14
-enum-told-14 c = search needs
-
-enum-told-15 : tie.Need-enum-told-15
-enum-told-15 c = search needs
-
-enum-told-16 : tie.Need-enum-told-16
-enum-told-16 c = search needs
-
-enum-told-17 : tie.Need-enum-told-17
-enum-told-17 c = search needs
-
-enum-told-18 : tie.Need-enum-told-18
-enum-told-18 c = search needs
-
-enum-told-19 : tie.Need-enum-told-19
-enum-told-19 c = search needs
-
-enum-told-20 : tie.Need-enum-told-20
-enum-told-20 c = search needs
-
-enum-told-21 : tie.Need-enum-told-21
-enum-told-21 c = search needs
-
-enum-told-22 : tie.Need-enum-told-22
-enum-told-22 c = search needs
-
-enum-told-23 : tie.Need-enum-told-23
-enum-told-23 c = search needs
-
 returns : tie.Need-returns
 unfolding effect
 returns c =
@@ -171,72 +121,13 @@ returns-6 c =
     (c .answer6 .ensures ∙ ap readyData (c .before .grouped2 .ensures .0))
 
 returns-7 : tie.Need-returns-7
-unfolding effect
-returns-7 c = let a = c .before .before .before .before .before .before .before .args in rw (c .enum-told7 .given .1) (not-data (siqp (a .order) (a .body .now)))
-
-returns-8 : tie.Need-returns-8
-unfolding effect
-returns-8 c = let a = c .before .before .before .before .before .before .before .args in rw (c .enum-told8 .given .1) (not-data (sr (a .order) (a .body .now)))
-
-returns-9 : tie.Need-returns-9
-unfolding effect
-returns-9 c = let a = c .before .before .before .before .before .before .before .args in rw (c .enum-told9 .given .1) (not-data (bw (a .order) (a .body .now)))
-
-returns-10 : tie.Need-returns-10
-unfolding effect
-returns-10 c = let a = c .before .before .before .before .before .before .before .args in rw (c .enum-told10 .given .1) (not-data (bw (a .order) (a .body .now)))
-
-returns-11 : tie.Need-returns-11
-unfolding effect
-returns-11 c = let a = c .before .before .before .before .before .before .before .args in rw (c .enum-told11 .given .1) (not-data (bwof (a .order) (a .body .now)))
-
-returns-12 : tie.Need-returns-12
-unfolding effect
-returns-12 c = let a = c .before .before .before .before .before .before .before .args in rw (c .enum-told12 .given .1) (not-data (cf (a .order) (a .body .now)))
-
-returns-13 : tie.Need-returns-13
-unfolding effect
-returns-13 c = let a = c .before .before .before .before .before .before .before .args in rw (c .enum-told13 .given .1) (not-data (dbfs (a .order) (a .body .now)))
-
-returns-14 : tie.Need-returns-14
-unfolding effect
-returns-14 c = let a = c .before .before .before .before .before .before .before .args in rw (c .enum-told14 .given .1) (not-data (dbtg (a .order) (a .body .now)))
-
-returns-15 : tie.Need-returns-15
-unfolding effect
-returns-15 c = let a = c .before .before .before .before .before .before .before .args in rw (c .enum-told15 .given .1) (not-data (ffs (a .order) (a .body .now)))
-
-returns-16 : tie.Need-returns-16
-unfolding effect
-returns-16 c = let a = c .before .before .before .before .before .before .before .args in rw (c .enum-told16 .given .1) (not-data (giqp (a .order) (a .body .now)))
-
-returns-17 : tie.Need-returns-17
-unfolding effect
-returns-17 c = let a = c .before .before .before .before .before .before .before .args in rw (c .enum-told17 .given .1) (not-data (gcf (a .order) (a .body .now)))
-
-returns-18 : tie.Need-returns-18
-unfolding effect
-returns-18 c = let a = c .before .before .before .before .before .before .before .args in rw (c .enum-told18 .given .1) (not-data (grg (a .order) (a .body .now)))
-
-returns-19 : tie.Need-returns-19
-unfolding effect
-returns-19 c = let a = c .before .before .before .before .before .before .before .args in rw (c .enum-told19 .given .1) (not-data (sofh (a .order) (a .body .now)))
-
-returns-20 : tie.Need-returns-20
-unfolding effect
-returns-20 c = let a = c .before .before .before .before .before .before .before .args in rw (c .enum-told20 .given .1) (not-data (empty (a .body .now)))
-
-returns-21 : tie.Need-returns-21
-unfolding effect
-returns-21 c = let a = c .before .before .before .before .before .before .before .args in rw (c .enum-told21 .given .1) (not-data (empty (a .body .now)))
-
-returns-22 : tie.Need-returns-22
-unfolding effect
-returns-22 c = let a = c .before .before .before .before .before .before .before .args in rw (c .enum-told22 .given .1) (not-data (text (a .order) (a .body .now)))
-
-returns-23 : tie.Need-returns-23
-unfolding effect
-returns-23 c = rw (c .enum-told23 .given .1)
+unfolding shaped kindAt known
+returns-7 c =
+    let a = c .before .before .before .args in
+    let e =
+    by-keys shaped NoSamples 6 (7 ∷ 8 ∷ 9 ∷ 10 ∷ 11 ∷ 12 ∷ 13 ∷ 14 ∷ 15 ∷ 16 ∷ 17 ∷ 18 ∷ 19 ∷ 20 ∷ 21 ∷ 22 ∷ [])
+    (a .kind) refl (c .match .keys7) in
+    no-data (a .order) (a .kind) (a .body .now) (a .was) e
 
 pub ready-data-spec : {M : Type 1} → statement M
 ready-data-spec =
@@ -266,43 +157,10 @@ ready-data-spec =
     gfnc-requires
     grouped-requires-2
     answer-requires-6
-    enum-told-7
-    enum-told-8
-    enum-told-9
-    enum-told-10
-    enum-told-11
-    enum-told-12
-    enum-told-13
-    enum-told-14
-    enum-told-15
-    enum-told-16
-    enum-told-17
-    enum-told-18
-    enum-told-19
-    enum-told-20
-    enum-told-21
-    enum-told-22
-    enum-told-23
     returns
     returns-2
     returns-3
     returns-4
     returns-5
     returns-6
-    returns-7
-    returns-8
-    returns-9
-    returns-10
-    returns-11
-    returns-12
-    returns-13
-    returns-14
-    returns-15
-    returns-16
-    returns-17
-    returns-18
-    returns-19
-    returns-20
-    returns-21
-    returns-22
-    returns-23)
+    returns-7)

@@ -6,11 +6,14 @@ use Rattle.effect.proofs.ready.shows.Tie as tie
 in-group-requires : tie.Need-in-group-requires
 in-group-requires c κs = search needs
 
+with-values-requires : tie.Need-with-values-requires
+with-values-requires c κs = search needs
+
 returns : tie.Need-returns
-returns c = rw (c .before .if1 .taken) (c .in-group .ensures)
+returns c = rw (c .before .before .if1 .taken, c .with-values .ensures, c .before .in-group .ensures)
 
 returns-2 : tie.Need-returns-2
 returns-2 c = rw (c .if1 .left)
 
 pub shows-spec : {M : Type 1} → statement M
-shows-spec = tie.close (tie.spec in-group-requires returns returns-2)
+shows-spec = tie.close (tie.spec in-group-requires with-values-requires returns returns-2)

@@ -1,10 +1,12 @@
 -- The value that is put into the state is the one that was read, or its absence.
 use mathlib.Core.Path.{ap, _∙_}
 use Rattle.body.specs.Levels.{dbtg}
-use Rattle.state.specs.State.{withTotalGain}
+use Rattle.body.specs.Check.{orElse}
+use Rattle.body.specs.Table.{totalGain}
+use Rattle.body.specs.Values.{noLevel, levelled}
 use Rattle.effect.specs.Says.{judged}
-use Rattle.effect.specs.Effect.{levelled, effect}
-use Rattle.effect.proofs.Laws.{met-took}
+use Rattle.effect.specs.Effect.{effect}
+use Rattle.effect.proofs.Laws.{set-took}
 use borrow.Author.Needs.{needs}
 use Rattle.effect.proofs.take.dbtg.Statement.{statement}
 use Rattle.effect.proofs.take.dbtg.Tie as tie
@@ -18,18 +20,18 @@ levelled-requires c κs = search needs
 of-level-requires : tie.Need-of-level-requires
 of-level-requires c κs = search needs
 
-met-requires : tie.Need-met-requires
-met-requires c κs = search needs
+set-requires : tie.Need-set-requires
+set-requires c κs = search needs
 
 returns : tie.Need-returns
 unfolding effect
 returns c =
-    let a = c .before .before .before .before .before .args in
-    let e = c .before .before .before .dbtg .ensures in
-    met-took (dbtg (a .order) (a .body .now)) (withTotalGain (a .was) (levelled (dbtg (a .order) (a .body .now)))) (c .met .ensures)
+    let a = c .before .before .before .before .before .before .args in
+    let e = c .before .before .before .before .dbtg .ensures in
+    set-took totalGain levelled (dbtg (a .order) (a .body .now)) (a .was) (c .set .ensures)
     (c .before .of-level .ensures ∙ ap judged e)
-    (ap (withTotalGain (a .was)) (c .before .before .levelled .ensures ∙ ap levelled e))
+    (c .before .before .before .levelled .ensures ∙ ap (orElse noLevel levelled) e)
 
 pub dbtg-spec : {M : Type 1} → statement M
 dbtg-spec =
-    tie.close (tie.spec dbtg-requires levelled-requires of-level-requires met-requires returns)
+    tie.close (tie.spec dbtg-requires levelled-requires of-level-requires set-requires returns)

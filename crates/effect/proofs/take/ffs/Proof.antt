@@ -1,10 +1,12 @@
 -- The value that is put into the state is the one that was read, or its absence.
 use mathlib.Core.Path.{ap, _∙_}
 use Rattle.body.specs.Levels.{ffs}
-use Rattle.state.specs.State.{withFloatScale}
+use Rattle.body.specs.Check.{orElse}
+use Rattle.body.specs.Table.{floatScale}
+use Rattle.body.specs.Values.{noLevel, levelled}
 use Rattle.effect.specs.Says.{judged}
-use Rattle.effect.specs.Effect.{levelled, effect}
-use Rattle.effect.proofs.Laws.{met-took}
+use Rattle.effect.specs.Effect.{effect}
+use Rattle.effect.proofs.Laws.{set-took}
 use borrow.Author.Needs.{needs}
 use Rattle.effect.proofs.take.ffs.Statement.{statement}
 use Rattle.effect.proofs.take.ffs.Tie as tie
@@ -18,18 +20,18 @@ levelled-requires c κs = search needs
 of-level-requires : tie.Need-of-level-requires
 of-level-requires c κs = search needs
 
-met-requires : tie.Need-met-requires
-met-requires c κs = search needs
+set-requires : tie.Need-set-requires
+set-requires c κs = search needs
 
 returns : tie.Need-returns
 unfolding effect
 returns c =
-    let a = c .before .before .before .before .before .args in
-    let e = c .before .before .before .ffs .ensures in
-    met-took (ffs (a .order) (a .body .now)) (withFloatScale (a .was) (levelled (ffs (a .order) (a .body .now)))) (c .met .ensures)
+    let a = c .before .before .before .before .before .before .args in
+    let e = c .before .before .before .before .ffs .ensures in
+    set-took floatScale levelled (ffs (a .order) (a .body .now)) (a .was) (c .set .ensures)
     (c .before .of-level .ensures ∙ ap judged e)
-    (ap (withFloatScale (a .was)) (c .before .before .levelled .ensures ∙ ap levelled e))
+    (c .before .before .before .levelled .ensures ∙ ap (orElse noLevel levelled) e)
 
 pub ffs-spec : {M : Type 1} → statement M
 ffs-spec =
-    tie.close (tie.spec ffs-requires levelled-requires of-level-requires met-requires returns)
+    tie.close (tie.spec ffs-requires levelled-requires of-level-requires set-requires returns)

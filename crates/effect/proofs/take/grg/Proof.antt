@@ -1,9 +1,9 @@
 -- The value that is put into the state is the one that was read, or its absence.
 use mathlib.Core.Path.{ap, _∙_}
-use Rattle.body.specs.Groups.{given, noGains, grg}
-use Rattle.state.specs.State.{withGains}
+use Rattle.body.specs.Groups.{grg}
+use Rattle.body.specs.Table.{gains}
 use Rattle.effect.specs.Effect.{effect}
-use Rattle.effect.proofs.Laws.{met-took, read-judged}
+use Rattle.effect.proofs.Laws.{set-took, read-judged}
 use borrow.Author.Needs.{needs}
 use Rattle.effect.proofs.take.grg.Statement.{statement}
 use Rattle.effect.proofs.take.grg.Tie as tie
@@ -14,17 +14,17 @@ grg-requires c κs = search needs
 of-checked-requires : tie.Need-of-checked-requires
 of-checked-requires c κs = search needs
 
-met-requires : tie.Need-met-requires
-met-requires c κs = search needs
+set-requires : tie.Need-set-requires
+set-requires c κs = search needs
 
 returns : tie.Need-returns
 unfolding effect
 returns c =
-    let a = c .before .before .before .before .before .args in
-    let e = c .before .before .before .grg .ensures in
-    met-took (grg (a .order) (a .body .now)) (withGains (a .was) (given noGains (grg (a .order) (a .body .now)))) (c .met .ensures)
+    let a = c .before .before .before .before .before .before .args in
+    let e = c .before .before .before .before .grg .ensures in
+    set-took gains (λ g. g) (grg (a .order) (a .body .now)) (a .was) (c .set .ensures)
     (c .before .of-checked .ensures ∙ read-judged e)
-    (ap (withGains (a .was)) (e .holds))
+    (e .holds)
 
 pub grg-spec : {M : Type 1} → statement M
-grg-spec = tie.close (tie.spec grg-requires of-checked-requires met-requires returns)
+grg-spec = tie.close (tie.spec grg-requires of-checked-requires set-requires returns)

@@ -19,18 +19,21 @@ marked-requires c κs = search needs
 of-checked-requires : tie.Need-of-checked-requires
 of-checked-requires c κs = search needs
 
+with-mark-requires : tie.Need-with-mark-requires
+with-mark-requires c κs = search needs
+
 met-requires : tie.Need-met-requires
 met-requires c κs = search needs
 
 returns : tie.Need-returns
 unfolding effect
 returns c =
-    let a = c .before .before .before .before .before .args in
-    let e = c .before .before .before .empty .ensures in
+    let a = c .before .before .before .before .before .before .args in
+    let e = c .before .before .before .before .empty .ensures in
     met-took (empty (a .body .now)) (withMark (a .was) (marked (empty (a .body .now)) (a .was .mark))) (c .met .ensures)
-    (c .before .of-checked .ensures ∙ ap judged e)
-    (ap (withMark (a .was)) (c .before .before .marked .ensures ∙ ap (λ (x : Answer (Unit {0})). marked x (a .was .mark)) e))
+    (c .before .before .of-checked .ensures ∙ ap judged e)
+    (c .before .with-mark .ensures ∙ ap (withMark (a .was)) (c .before .before .before .marked .ensures ∙ ap (λ (x : Answer (Unit {0})). marked x (a .was .mark)) e))
 
 pub iqdc-spec : {M : Type 1} → statement M
 iqdc-spec =
-    tie.close (tie.spec empty-requires marked-requires of-checked-requires met-requires returns)
+    tie.close (tie.spec empty-requires marked-requires of-checked-requires with-mark-requires met-requires returns)

@@ -1,10 +1,12 @@
 -- The value that is put into the state is the one that was read, or its absence.
 use mathlib.Core.Path.{ap, _∙_}
 use Rattle.body.specs.Numbers.{sr}
-use Rattle.state.specs.State.{withRate}
+use Rattle.body.specs.Check.{orElse}
+use Rattle.body.specs.Table.{rate}
+use Rattle.body.specs.Values.{noNumber, number}
 use Rattle.effect.specs.Says.{judged}
-use Rattle.effect.specs.Effect.{held, effect}
-use Rattle.effect.proofs.Laws.{met-took}
+use Rattle.effect.specs.Effect.{effect}
+use Rattle.effect.proofs.Laws.{set-took}
 use borrow.Author.Needs.{needs}
 use Rattle.effect.proofs.take.sr.Statement.{statement}
 use Rattle.effect.proofs.take.sr.Tie as tie
@@ -18,17 +20,17 @@ held-requires c κs = search needs
 of-number-requires : tie.Need-of-number-requires
 of-number-requires c κs = search needs
 
-met-requires : tie.Need-met-requires
-met-requires c κs = search needs
+set-requires : tie.Need-set-requires
+set-requires c κs = search needs
 
 returns : tie.Need-returns
 unfolding effect
 returns c =
-    let a = c .before .before .before .before .before .args in
-    let e = c .before .before .before .sr .ensures in
-    met-took (sr (a .order) (a .body .now)) (withRate (a .was) (held (sr (a .order) (a .body .now)))) (c .met .ensures)
+    let a = c .before .before .before .before .before .before .args in
+    let e = c .before .before .before .before .sr .ensures in
+    set-took rate number (sr (a .order) (a .body .now)) (a .was) (c .set .ensures)
     (c .before .of-number .ensures ∙ ap judged e)
-    (ap (withRate (a .was)) (c .before .before .held .ensures ∙ ap held e))
+    (c .before .before .before .held .ensures ∙ ap (orElse noNumber number) e)
 
 pub sr-spec : {M : Type 1} → statement M
-sr-spec = tie.close (tie.spec sr-requires held-requires of-number-requires met-requires returns)
+sr-spec = tie.close (tie.spec sr-requires held-requires of-number-requires set-requires returns)

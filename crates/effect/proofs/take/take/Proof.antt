@@ -188,7 +188,7 @@ met-requires c κs = search needs
 returns-13 : tie.Need-returns-13
 unfolding effect
 returns-13 c =
-    let a = c .before .before .before .before .before .before .before .before .before .before .args in
+    let a = c .before .before .before .before .before .before .before .args in
     rw (c .before .before .before .enum-told19 .given .1)
     (met-took (sofh (a .order) (a .body .now)) (a .was) (c .met .ensures) (c .before .of-number .ensures ∙ ap judged (c .before .before .sofh .ensures)) refl)
 
@@ -207,7 +207,7 @@ met-requires-2 c κs = search needs
 returns-14 : tie.Need-returns-14
 unfolding effect
 returns-14 c =
-    let a = c .before .before .before .before .before .before .before .before .before .before .args in
+    let a = c .before .before .before .before .before .before .before .args in
     rw (c .before .before .before .enum-told20 .given .1)
     (met-took (empty (a .body .now)) (a .was) (c .met2 .ensures) (c .before .of-checked .ensures ∙ ap judged (c .before .before .empty .ensures)) refl)
 
@@ -235,7 +235,7 @@ met-requires-3 c κs = search needs
 returns-16 : tie.Need-returns-16
 unfolding effect
 returns-16 c =
-    let a = c .before .before .before .before .before .before .before .before .before .before .args in
+    let a = c .before .before .before .before .before .before .before .args in
     rw (c .before .before .before .enum-told22 .given .1)
     (met-took (text (a .order) (a .body .now)) (a .was) (c .met3 .ensures) (c .before .of-text .ensures ∙ ap judged (c .before .before .text .ensures)) refl)
 
@@ -259,7 +259,7 @@ returns-18 : tie.Need-returns-18
 unfolding effect
 returns-18 c =
     let t = c .timed .ensures in
-    let s = c .before .before .before .before .before .before .before .args .was in
+    let s = c .before .before .before .before .args .was in
     ⊎-elim
     (λ k. rw (k .1 .given .1, ← k .2 .ensures) (data-took s false (k .4) (k .3 .ensures) t))
     (⊎-elim

@@ -12,11 +12,14 @@ amount-requires c κs = search needs
 enum-told : tie.Need-enum-told
 enum-told c = search needs
 
+no-level-requires : tie.Need-no-level-requires
+no-level-requires c κs = search needs
+
 returns : tie.Need-returns
 returns c = rw (c .amount .ensures, c .before .before .read .given .1)
 
 returns-2 : tie.Need-returns-2
-returns-2 c = rw (c .enum-told .given .1)
+returns-2 c = rw (c .before .enum-told .given .1) (c .no-level .ensures)
 
 pub levelled-spec : {M : Type 1} → statement M
-levelled-spec = tie.close (tie.spec enum-known-read amount-requires enum-told returns returns-2)
+levelled-spec = tie.close (tie.spec enum-known-read amount-requires enum-told no-level-requires returns returns-2)

@@ -1,4 +1,4 @@
--- The tests come in the rule's order; then each case of what stands at the place is a step of that case.
+-- The tests come in the rule's order; then each case of what is ahead is a step of that case.
 use mathlib.Core.Bool.{true, false}
 use mathlib.Core.Path.{_≡_, sym, _∙_}
 use native.Mathlib.Omega.{arith}
@@ -6,11 +6,10 @@ use lib.ListN.{drop, length-drop}
 use Rattle.num.specs.Choice.{both}
 use Rattle.frame.specs.Place.{shows}
 use Rattle.frame.specs.declared.At.the-variants.{Complete}
-use Rattle.frame.proofs.Laws.{pass-told}
+use Rattle.frame.proofs.Looks.{is-chunk}
 use Rattle.state.specs.Good.{goodState}
-use Rattle.state.proofs.Laws.{values-and-lists}
 use Rattle.reader.specs.Step.{stepBy, stepOf}
-use Rattle.reader.proofs.Laws.{unfit, step-past, step-unfit, step-end, step-ahead, step-skips, still-took, chunk-ends, chunk-body, chunk-size}
+use Rattle.reader.proofs.Laws.{unfit, step-past, step-unfit, step-ahead, still-took, chunk-ends, chunk-body, chunk-size}
 use borrow.Author.Needs.{needs}
 use Rattle.reader.proofs.Cursor.go_on.Statement.{statement}
 use Rattle.reader.proofs.Cursor.go_on.Tie as tie
@@ -31,7 +30,7 @@ good-lists-requires c κs = search needs
 
 -- the two halves that are tested are the test of number 3
 halves : (c : tie.After-good-lists) → goodState (c .before .before .before .before .before .args .self .state) ≡ both (c .before .good-values .result) (c .good-lists .result)
-halves c = rw (c .before .good-values .ensures, c .good-lists .ensures) (values-and-lists _)
+halves c = rw (c .before .good-values .ensures, c .good-lists .ensures)
 
 still-requires-2 : tie.Need-still-requires-2
 still-requires-2 c κs = search needs
@@ -46,30 +45,30 @@ returns-2 c =
 fit : (c : tie.Else2) → unfit (c .before .before .before .before .before .before .before .args .self) ≡ false
 fit c = rw (halves (c .before .before)) (c .if2 .left)
 
+-- what is ahead, and the step that it makes
+told : (c : tie.After-known-told) →
+    let a = c .before .before .before .before .before .before .before .before .before .before .before .args in
+    shows (a .order) (drop (a .self .place) (a .s .now)) ≡ Complete (c .before .code .given .0 .0) (c .before .code .given .0 .1 .0)
+told c =
+    let a = c .before .before .before .before .before .before .before .before .before .before .before .args in
+    is-chunk (a .order) (drop (a .self .place) (a .s .now)) (c .before .code .given .0 .0) (c .before .code .given .0 .1 .0)
+    (sym (c .before .before .before .ahead-of .ensures) ∙ c .before .code .given .1)
+
+ahead : (c : tie.After-ahead-of) →
+    let a = c .before .before .before .before .before .before .before .before .args in
+    stepOf (a .order) (a .s .now) (a .self) ≡ stepBy (a .order) (drop (a .self .place) (a .s .now)) (a .self) (c .ahead-of .result)
+ahead c =
+    let a = c .before .before .before .before .before .before .before .before .args in
+    step-ahead (a .order) (a .s .now) (a .self) (omega arith) (fit (c .before)) ∙ rw (← c .ahead-of .ensures)
+
+ahead-of-requires : tie.Need-ahead-of-requires
+ahead-of-requires c κs = search needs
+
+enum-told : tie.Need-enum-told
+enum-told c = search needs
+
 still-requires-3 : tie.Need-still-requires-3
 still-requires-3 c κs = search needs
-
-returns-3 : tie.Need-returns-3
-returns-3 c =
-    let a = c .before .before .before .before .before .before .before .before .before .args in
-    rw (step-end (a .order) (a .s .now) (a .self) (c .before .if3 .taken) (fit (c .before .before))) (still-took (c .still3 .ensures))
-
--- what was looked at, and the step that it makes
-told : (c : tie.After-known-told) →
-    let a = c .before .before .before .before .before .before .before .before .before .before .before .before .args in
-    shows (a .order) (drop (a .self .place) (a .s .now)) ≡ Complete (c .before .code .given .0 .0) (c .before .code .given .0 .1 .0)
-told c = sym (c .before .before .before .look .ensures) ∙ c .before .code .given .1
-
-ahead : (c : tie.After-look) →
-    let a = c .before .before .before .before .before .before .before .before .before .args in
-    let l = drop (a .self .place) (a .s .now) in
-    stepOf (a .order) (a .s .now) (a .self) ≡ stepBy (a .order) l (a .self) (c .look .result)
-ahead c =
-    let a = c .before .before .before .before .before .before .before .before .before .args in
-    step-ahead (a .order) (a .s .now) (a .self) (omega arith) (fit (c .before .before)) ∙ rw (← c .look .ensures)
-
-look-requires : tie.Need-look-requires
-look-requires c κs = search needs
 
 enum-known-code : tie.Need-enum-known-code
 enum-known-code c = search needs
@@ -79,7 +78,7 @@ add-from c = search needs
 
 add-to : tie.Need-add-to
 add-to c =
-    let a = c .before .before .before .before .before .before .before .before .before .before .before .before .args in
+    let a = c .before .before .before .before .before .before .before .before .before .before .before .args in
     record { fits = omega (arith, chunk-ends (a .order) (a .s .now) (a .self .place) (c .before .code .given .0 .0) (c .before .code .given .0 .1 .0) (told c)) }
 
 sub-chunk : tie.Need-sub-chunk
@@ -90,12 +89,12 @@ part-chunk-start c = search needs
 
 part-chunk-end : tie.Need-part-chunk-end
 part-chunk-end c =
-    let a = c .before .before .before .before .before .before .before .before .before .before .before .before .args in
+    let a = c .before .before .before .before .before .before .before .before .before .before .before .args in
     chunk-ends (a .order) (a .s .now) (a .self .place) (c .before .code .given .0 .0) (c .before .code .given .0 .1 .0) (told c)
 
 chunk-requires : tie.Need-chunk-requires
 chunk-requires c κs =
-    let a = c .before .before .before .before .before .before .before .before .before .before .before .before .before .args in
+    let a = c .before .before .before .before .before .before .before .before .before .before .before .before .args in
     let k = told (c .before) in
     let code = c .before .before .code .given .0 .0 in
     let size = c .before .before .code .given .0 .1 .0 in
@@ -103,8 +102,8 @@ chunk-requires c κs =
     rw (chunk-body (a .order) (a .s .now) at code size k, chunk-size (a .order) (a .s .now) at code size k)
     (omega (arith, chunk-ends (a .order) (a .s .now) at code size k))
 
-enum-told : tie.Need-enum-told
-enum-told c = search needs
+enum-told-2 : tie.Need-enum-told-2
+enum-told-2 c = search needs
 
 sub-cut : tie.Need-sub-cut
 sub-cut c = search needs
@@ -112,12 +111,18 @@ sub-cut c = search needs
 cut-requires : tie.Need-cut-requires
 cut-requires c κs = search needs
 
+enum-told-3 : tie.Need-enum-told-3
+enum-told-3 c = search needs
+
 skip-requires : tie.Need-skip-requires
 skip-requires c κs = search needs
 
+returns-3 : tie.Need-returns-3
+returns-3 c = rw (ahead (c .before .before .before), c .before .enum-told .given .1) (still-took (c .still3 .ensures))
+
 returns-4 : tie.Need-returns-4
 returns-4 c =
-    let a = c .before .before .before .before .before .before .before .before .before .before .before .before .before .before .args in
+    let a = c .before .before .before .before .before .before .before .before .before .before .before .before .before .args in
     let k = told (c .before .before) in
     let code = c .before .before .before .code .given .0 .0 in
     let size = c .before .before .before .code .given .0 .1 .0 in
@@ -128,14 +133,11 @@ returns-4 c =
 returns-5 : tie.Need-returns-5
 returns-5 c =
     let h = c .before .before .before in
-    let a = h .before .before .before .before .before .before .before .before .before .args in
-    rw (ahead h, c .before .enum-told .given .1, length-drop (a .self .place) (a .s .now)) (c .cut .ensures)
+    let a = h .before .before .before .before .before .before .before .before .args in
+    rw (ahead h, c .before .enum-told2 .given .1, length-drop (a .self .place) (a .s .now)) (c .cut .ensures)
 
 returns-6 : tie.Need-returns-6
-returns-6 c =
-    let h = c .before .before in
-    let a = h .before .before .before .before .before .before .before .before .before .args in
-    rw (ahead h, step-skips (a .order) (drop (a .self .place) (a .s .now)) (a .self) (h .look .result) (pass-told (h .look .result) (c .before .match .keys3))) (c .skip .ensures)
+returns-6 c = rw (ahead (c .before .before .before), c .before .enum-told3 .given .1) (c .skip .ensures)
 
 pub go-on-spec : {M : Type 1} → statement M
 go-on-spec =
@@ -147,9 +149,9 @@ go-on-spec =
     good-lists-requires
     still-requires-2
     returns-2
+    ahead-of-requires
+    enum-told
     still-requires-3
-    returns-3
-    look-requires
     enum-known-code
     add-from
     add-to
@@ -157,10 +159,12 @@ go-on-spec =
     part-chunk-start
     part-chunk-end
     chunk-requires
-    enum-told
+    enum-told-2
     sub-cut
     cut-requires
+    enum-told-3
     skip-requires
+    returns-3
     returns-4
     returns-5
     returns-6)

@@ -1,65 +1,13 @@
--- The empty state is its parts put together, and each call promises the absent value of one part.
+-- The empty values, with the mark.
 use borrow.Author.Needs.{needs}
 use Rattle.state.proofs.State.empty.Statement.{statement}
 use Rattle.state.proofs.State.empty.Tie as tie
 
-no-number-requires : tie.Need-no-number-requires
-no-number-requires c κs = search needs
-
-no-number-requires-2 : tie.Need-no-number-requires-2
-no-number-requires-2 c κs = search needs
-
-no-number-requires-3 : tie.Need-no-number-requires-3
-no-number-requires-3 c κs = search needs
-
-no-number-requires-4 : tie.Need-no-number-requires-4
-no-number-requires-4 c κs = search needs
-
-no-level-requires : tie.Need-no-level-requires
-no-level-requires c κs = search needs
-
-no-level-requires-2 : tie.Need-no-level-requires-2
-no-level-requires-2 c κs = search needs
-
-no-level-requires-3 : tie.Need-no-level-requires-3
-no-level-requires-3 c κs = search needs
-
-no-packing-requires : tie.Need-no-packing-requires
-no-packing-requires c κs = search needs
-
-no-hertz-requires : tie.Need-no-hertz-requires
-no-hertz-requires c κs = search needs
-
-no-gains-requires : tie.Need-no-gains-requires
-no-gains-requires c κs = search needs
+none-requires : tie.Need-none-requires
+none-requires c κs = search needs
 
 returns : tie.Need-returns
-returns c =
-    rw (
-      c .no-gains .ensures,
-      c .before .no-hertz .ensures,
-      c .before .before .no-packing .ensures,
-      c .before .before .before .no-level3 .ensures,
-      c .before .before .before .before .no-level2 .ensures,
-      c .before .before .before .before .before .no-level .ensures,
-      c .before .before .before .before .before .before .no-number4 .ensures,
-      c .before .before .before .before .before .before .before .no-number3 .ensures,
-      c .before .before .before .before .before .before .before .before .no-number2 .ensures,
-      c .before .before .before .before .before .before .before .before .before .no-number .ensures,
-    )
+returns c = rw (c .none .ensures)
 
 pub empty-spec : {M : Type 1} → statement M
-empty-spec =
-    tie.close
-    (tie.spec
-    no-number-requires
-    no-number-requires-2
-    no-number-requires-3
-    no-number-requires-4
-    no-level-requires
-    no-level-requires-2
-    no-level-requires-3
-    no-packing-requires
-    no-hertz-requires
-    no-gains-requires
-    returns)
+empty-spec = tie.close (tie.spec none-requires returns)

@@ -1,8 +1,8 @@
 -- The loop promises the places of each list; with each count's test they are the test of the lists.
 use borrow.Author.Needs.{needs}
 use Rattle.state.specs.Good.{goodLists}
-use Rattle.state.proofs.State.good_lists.Statement.{statement}
-use Rattle.state.proofs.State.good_lists.Tie as tie
+use Rattle.state.proofs.Values.good_lists.Statement.{statement}
+use Rattle.state.proofs.Values.good_lists.Tie as tie
 
 places-requires : tie.Need-places-requires
 places-requires c κs = search needs

@@ -1,8 +1,8 @@
 -- Each call promises the test of one value, and the test of the values is those tests together.
 use borrow.Author.Needs.{needs}
 use Rattle.state.specs.Good.{goodValues}
-use Rattle.state.proofs.State.good_values.Statement.{statement}
-use Rattle.state.proofs.State.good_values.Tie as tie
+use Rattle.state.proofs.Values.good_values.Statement.{statement}
+use Rattle.state.proofs.Values.good_values.Tie as tie
 
 good-packing-requires : tie.Need-good-packing-requires
 good-packing-requires c κs = search needs

@@ -1,0 +1,27 @@
+-- What is ahead of a place: no byte, a stretch that belongs to no chunk, a chunk that breaks off, or a chunk.
+use Prim.Native.Nat.{ℕ}
+use mathlib.Core.Bool.{Bool, true, false}
+use mathlib.Core.List.{List, [], _∷_}
+use Rattle.num.specs.declared.Order.{Order}
+use Rattle.frame.specs.Place.{shows}
+use Rattle.frame.specs.declared.At.{At}
+use Rattle.frame.specs.declared.At.the-variants.{NoSync, Bad, Unfinished, Complete}
+use Rattle.frame.specs.declared.Ahead.{Ahead}
+use Rattle.frame.specs.declared.Ahead.the-variants.{End, Stretch, Cut, Chunk}
+
+-- by what stands at the place
+abbrev pub aheadBy : At → Ahead
+aheadBy NoSync = Stretch
+aheadBy Bad = Stretch
+aheadBy Unfinished = Cut
+aheadBy (Complete code size) = Chunk code size
+
+abbrev pub aheadOf : Order → List ℕ → Ahead
+aheadOf o [] = End
+aheadOf o (x ∷ l) = aheadBy (shows o (x ∷ l))
+
+abbrev pub isChunk : Ahead → Bool
+isChunk End = false
+isChunk Stretch = false
+isChunk Cut = false
+isChunk (Chunk code size) = true

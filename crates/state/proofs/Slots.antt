@@ -1,0 +1,54 @@
+-- Laws of the slots: what stands in each after one was put anew, and that the values are what their slots hold.
+use Prim.Native.Nat.{ℕ}
+use mathlib.Core.Path.{_≡_, refl, ap, _∙_}
+use mathlib.Core.Bool.{Bool, true, false}
+use Rattle.num.specs.Choice.{pick}
+use Rattle.body.specs.Table.{Slot, packing, rate, band, groupBand, centre, fullScale, totalGain, floatScale, group, frequencies, gains, Value, none, isSlot}
+use Rattle.state.specs.State.{valueIn, putIn, built}
+use Rattle.state.specs.declared.Values.{Values}
+
+pub in-built : (f : (x : Slot) → Value x) (x : Slot) → valueIn x (built f) ≡ f x
+in-built f packing = refl
+in-built f rate = refl
+in-built f band = refl
+in-built f groupBand = refl
+in-built f centre = refl
+in-built f fullScale = refl
+in-built f totalGain = refl
+in-built f floatScale = refl
+in-built f group = refl
+in-built f frequencies = refl
+in-built f gains = refl
+
+-- two that hold the same in every slot are the same
+pub same-values : (v w : Values) → ((x : Slot) → valueIn x v ≡ valueIn x w) → v ≡ w
+same-values v w h = λ i. built (λ x. h x i)
+
+-- the values w where the test holds, and v where it does not
+abbrev mixed : (Slot → Bool) → Values → Values → (x : Slot) → Value x
+mixed test w v x = pick (test x) (valueIn x w) (valueIn x v)
+
+-- with a slot put anew: that slot from the same put into no values at all, the others as they were
+put-mixed : (y : Slot) (a : Value y) (v : Values) → putIn y a v ≡ built (mixed (isSlot y) (putIn y a (built none)) v)
+put-mixed packing a v = refl
+put-mixed rate a v = refl
+put-mixed band a v = refl
+put-mixed groupBand a v = refl
+put-mixed centre a v = refl
+put-mixed fullScale a v = refl
+put-mixed totalGain a v = refl
+put-mixed floatScale a v = refl
+put-mixed group a v = refl
+put-mixed frequencies a v = refl
+put-mixed gains a v = refl
+
+in-put : (y : Slot) (a : Value y) (v : Values) (x : Slot) (b : Bool) → isSlot y x ≡ b → valueIn x (putIn y a v) ≡ pick b (valueIn x (putIn y a (built none))) (valueIn x v)
+in-put y a v x b e = ap (valueIn x) (put-mixed y a v) ∙ in-built (mixed (isSlot y) (putIn y a (built none)) v) x ∙ rw e
+
+-- every other slot is left
+pub put-other : (y : Slot) (a : Value y) (v : Values) (x : Slot) → isSlot y x ≡ false → valueIn x (putIn y a v) ≡ valueIn x v
+put-other y a v x e = in-put y a v x false e
+
+-- and the slot itself does not depend on what was there
+pub put-own : (y : Slot) (a : Value y) (v w : Values) (x : Slot) → isSlot y x ≡ true → valueIn x (putIn y a v) ≡ valueIn x (putIn y a w)
+put-own y a v w x e = in-put y a v x true e ∙ rw (in-put y a w x true e)
