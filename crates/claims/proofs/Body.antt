@@ -8,6 +8,10 @@ use Rattle.body.proofs.data.sfnc.Reads as sfnc
 use Rattle.body.proofs.data.sfnr.Reads as sfnr
 use Rattle.body.proofs.data.ssnc.Reads as ssnc
 use Rattle.body.proofs.data.ssnr.Reads as ssnr
+use Rattle.body.proofs.value.no_number.Reads as no_number
+use Rattle.body.proofs.value.no_band.Reads as no_band
+use Rattle.body.proofs.value.no_level.Reads as no_level
+use Rattle.body.proofs.data.shape_of.Reads as shape_of
 use Rattle.body.proofs.fault.number_of.Reads as number_of
 use Rattle.body.proofs.group.gcf.Reads as gcf
 use Rattle.body.proofs.group.giqp.Reads as giqp
@@ -114,3 +118,15 @@ gcf-one-answer κs a r r′ s s′ p q = λ i. record { checked = read-checked p
 
 pub grg-one-answer : OneAnswer grg.Post
 grg-one-answer κs a r r′ s s′ p q = λ i. record { checked = read-checked p q i; gains = read-value p q i }
+
+pub no-number-one-answer : OneAnswer no_number.Post
+no-number-one-answer κs a r r′ s s′ p q = p ∙ sym q
+
+pub no-band-one-answer : OneAnswer no_band.Post
+no-band-one-answer κs a r r′ s s′ p q = p ∙ sym q
+
+pub no-level-one-answer : OneAnswer no_level.Post
+no-level-one-answer κs a r r′ s s′ p q = p ∙ sym q
+
+pub shape-of-one-answer : OneAnswer shape_of.Post
+shape-of-one-answer κs a r r′ s s′ p q = p ∙ sym q

@@ -42,14 +42,15 @@ use Rattle.writer.specs.declared.Written.the-variants.{Next}
 use Rattle.writer.proofs.Theorems.{written-told}
 use Rattle.writer.proofs.write.Reads as write
 use Rattle.samples.specs.Copy.{layoutAt, countOf}
-use Rattle.body.specs.Table.{shaped, packing, rate, floatScale, none}
+use Rattle.body.specs.Table.{shaped, none}
+use Rattle.body.specs.Table as Slot
 use Rattle.samples.specs.declared.Copied.{Copied}
 use Rattle.samples.specs.declared.Copied.the-variants.{Count}
 use Rattle.samples.proofs.AtCursor.{stands}
 use Rattle.samples.proofs.Theorems.{copied-told}
 use Rattle.samples.proofs.patterns.copy.Reads as patterns
 use Rattle.samples.proofs.shorts.copy.Reads as shorts
-use Rattle.filecheck.specs.File.{fileFrom}
+use Rattle.filecheck.specs.File.{partOf, fileFrom}
 use Rattle.filecheck.specs.declared.FileChecked.{FileChecked}
 use Rattle.filecheck.specs.declared.FileChecked.the-variants.{Good}
 use Rattle.filecheck.proofs.Theorems.{file-told}
@@ -102,7 +103,7 @@ unfolding kindOf kindIn known verdict
 no-refused-record κs r h = written-told r (Next 12) (h .1 .0)
 
 pub no-refused-file : (κs : Lfts 1) (r : FileChecked) → Allows check.Post κs (Big, (lent (whole 0x53 0x4F 0x46 0x48 (0 ∷ 0 ∷ 0 ∷ 1 ∷ []) ++ whole 0x45 0x4F 0x46 0x48 []), tt)) r → r ≡ Good 2
-unfolding fileFrom framesBy gap shows starts kindOf kindIn known verdict
+unfolding fileFrom framesBy gap shows starts kindOf kindIn known verdict partOf shaped
 no-refused-file κs r h = file-told r (Good 2) (h .1)
 
 -- ---- one that gives the same item for all streams
@@ -125,7 +126,7 @@ abbrev pub pair : List ℕ
 pair = whole 0x53 0x53 0x4E 0x43 (0 ∷ 0 ∷ 0 ∷ 0 ∷ 0 ∷ 0 ∷ 0 ∷ 5 ∷ 0 ∷ 1 ∷ 0xFF ∷ 0xFF ∷ [])
 
 abbrev pub knowing : Cursor
-knowing = cursorAt 0 true (withValues (emptied false) (putIn rate (record { present = true; value = pos 1 }) (putIn packing (record { present = true; value = pos 1 }) (built none))))
+knowing = cursorAt 0 true (withValues (emptied false) (putIn Slot.rate (record { present = true; value = pos 1 }) (putIn Slot.packing (record { present = true; value = pos 1 }) (built none))))
 
 -- a copy of channel 0 into a slice of two numbers may give this answer
 abbrev pub Copies : Lfts 2 → Copied → Type 0
@@ -145,7 +146,7 @@ abbrev pub float : List ℕ
 float = whole 0x53 0x46 0x4E 0x52 (0 ∷ 0 ∷ 0 ∷ 0 ∷ 0 ∷ 0 ∷ 0 ∷ 5 ∷ 0x7F ∷ 0xC0 ∷ 0 ∷ 1 ∷ [])
 
 abbrev pub scaled : Cursor
-scaled = cursorAt 0 true (withValues (emptied false) (putIn floatScale (record { present = true; value = ofBits binary32 0x3F800000 }) (putIn rate (record { present = true; value = pos 1 }) (built none))))
+scaled = cursorAt 0 true (withValues (emptied false) (putIn Slot.floatScale (record { present = true; value = ofBits binary32 0x3F800000 }) (putIn Slot.rate (record { present = true; value = pos 1 }) (built none))))
 
 pub no-lost-pattern : (κs : Lfts 2) (r : Copied) (h : Allows patterns.Post κs (Big, (lent float, (scaled, (0, (lent (0 ∷ []), tt))))) r) →
     (r ≡ Count 1) × (h .0 .1 .1 .1 .1 .0 .now ≡ 0x7FC00001 ∷ [])

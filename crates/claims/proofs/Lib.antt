@@ -17,3 +17,4 @@ pub mod Typed
 pub mod Marked
 pub mod Empty
 pub mod Bench
+pub mod Allowed
