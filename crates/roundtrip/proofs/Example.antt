@@ -6,6 +6,7 @@ use mathlib.Core.List.{List, [], _∷_, _++_}
 use lib.Ieee.{ofBits}
 use lib.IntN.{pos, negsuc}
 use Rattle.num.specs.Choice.{each}
+use Rattle.num.specs.Number.{bytesOf}
 use Rattle.num.specs.declared.Order.the-variants.{Little}
 use Rattle.frame.specs.Frames.{chunkBytes}
 use Rattle.frame.specs.Place.{starts, shows}
@@ -21,14 +22,16 @@ use Rattle.reader.specs.declared.Cursor.{Cursor}
 use Rattle.state.specs.Good.{goodValues, goodLists, goodFrom}
 use Rattle.samples.specs.Copy.{layoutAt, countOf}
 use Rattle.body.specs.Table.{shaped}
-use Rattle.writer.specs.Data.{runOf, pattern, timeOf, shortBody}
+use Rattle.lay.specs.Numbers.{int64}
+use Rattle.lay.specs.Runs.{runOf}
+use Rattle.writer.specs.Data.{shortBody}
 use Rattle.roundtrip.proofs.Theorems.{leftBy}
 
 -- two channels of one pair each, I before Q: 10, -1 and 20, -2
 pub stream : List ℕ
 stream =
-    chunkBytes Little (codeOf SR) (timeOf Little (pos 1000))
-    ++ (chunkBytes Little (codeOf GIQP) (runOf (pattern Little) (2 ∷ 1 ∷ 1 ∷ 0 ∷ 1 ∷ []))
+    chunkBytes Little (codeOf SR) (int64 Little (pos 1000))
+    ++ (chunkBytes Little (codeOf GIQP) (runOf (bytesOf Little 4) (2 ∷ 1 ∷ 1 ∷ 0 ∷ 1 ∷ []))
     ++ chunkBytes Little (codeOf GSNC) (shortBody Little (pos 5) (pos 10 ∷ negsuc 0 ∷ pos 20 ∷ negsuc 1 ∷ [])))
 
 -- the cursor after two steps stands at the pairs

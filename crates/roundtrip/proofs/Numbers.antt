@@ -1,20 +1,20 @@
 -- The numbers of a data chunk, over the width: signed numbers of 16 bits, or 32-bit patterns of floats.
-use Prim.Native.Nat.{ℕ, zero, suc, _+_, _*_, _<_}
+use Prim.Native.Nat.{ℕ, _<_}
 use mathlib.Core.Path.{_≡_}
 use mathlib.Core.Bool.{Bool, true, false}
-use mathlib.Core.List.{List, [], _∷_, _++_}
-use native.Mathlib.Nat.{suc-mul}
-use native.Mathlib.Omega.{arith}
+use mathlib.Core.List.{List, _++_}
 use lib.IntN.{ℤ, pos}
 use lib.ListN.{length, getD}
-use lib.Seq.{take-at, drop-append-add}
 use mir.Syntax.{w16, w32}
 use mir.Val.{SFits, Fits, ofZ}
+use Rattle.num.specs.Number.{bytesOf}
 use Rattle.num.specs.declared.Order.{Order}
 use Rattle.num.proofs.Laws.{bytes-length, read-written, signed-back}
-use Rattle.copy.specs.Samples.{bytesAt, shortAt, patternAt}
+use Rattle.lay.specs.Numbers.{int16, int64}
+use Rattle.lay.specs.Runs.{runOf}
+use Rattle.lay.proofs.Values.{run-at}
+use Rattle.copy.specs.Samples.{shortAt, patternAt}
 use Rattle.samples.specs.Plan.{wide}
-use Rattle.writer.specs.Data.{runOf, short, pattern, timeOf}
 
 abbrev pub Number : Bool → Type 0
 Number true = ℕ
@@ -27,8 +27,8 @@ none false = pos 0
 
 -- the bytes of a number, and the number at a place of some bytes
 abbrev pub bytesOne : (float : Bool) → Order → Number float → List ℕ
-bytesOne true = pattern
-bytesOne false = short
+bytesOne true o = bytesOf o 4
+bytesOne false o = int16 o
 
 abbrev pub valueAt : (float : Bool) → Order → List ℕ → ℕ → Number float
 valueAt true = patternAt
@@ -41,7 +41,7 @@ AllFit false xs = (i : ℕ) → SFits w16 (getD xs i (pos 0))
 
 -- the body of a record: its time, then its numbers
 abbrev pub bodyOf : (float : Bool) → Order → ℤ → List (Number float) → List ℕ
-bodyOf float o time xs = timeOf o time ++ runOf (bytesOne float o) xs
+bodyOf float o time xs = int64 o time ++ runOf (bytesOne float o) xs
 
 pub one-length : (float : Bool) (o : Order) (x : Number float) → length (bytesOne float o x) ≡ wide float
 one-length true o x = bytes-length o 4 x
@@ -49,20 +49,8 @@ one-length false o x = bytes-length o 2 (ofZ w16 x)
 
 -- ---- the numbers are read back
 
--- the bytes of number k of a run
-run-at : {A : Type 0} (bytes : A → List ℕ) (w : ℕ) → ((x : A) → length (bytes x) ≡ w) → (d : A) (xs : List A) (k : ℕ) → k < length xs →
-    bytesAt w (runOf bytes xs) k ≡ bytes (getD xs k d)
-unfolding runOf
-run-at bytes w e d [] k h = absurd (omega arith)
-run-at bytes w e d (x ∷ xs) zero h =
-    let z : 0 * w ≡ 0 = omega arith in
-    rw z (take-at (bytes x) (runOf bytes xs) w (e x))
-run-at bytes w e d (x ∷ xs) (suc k) h =
-    let z : suc k * w ≡ length (bytes x) + k * w = omega (arith, suc-mul k w, e x) in
-    rw (z, drop-append-add (bytes x) (runOf bytes xs) (k * w)) (run-at bytes w e d xs k (omega arith))
-
 -- Number k of the bytes of some numbers is number k of them.
 pub numbers-back : (float : Bool) (o : Order) (xs : List (Number float)) → AllFit float xs → (k : ℕ) → k < length xs →
     valueAt float o (runOf (bytesOne float o) xs) k ≡ getD xs k (none float)
-numbers-back true o xs f k h = rw (run-at (pattern o) 4 (one-length true o) 0 xs k h) (read-written o 4 (getD xs k 0) (f k .fits))
-numbers-back false o xs f k h = rw (run-at (short o) 2 (one-length false o) (pos 0) xs k h) (signed-back o w16 (getD xs k (pos 0)) (f k))
+numbers-back true o xs f k h = rw (run-at (bytesOf o 4) 4 (one-length true o) 0 xs k h) (read-written o 4 (getD xs k 0) (f k .fits))
+numbers-back false o xs f k h = rw (run-at (int16 o) 2 (one-length false o) (pos 0) xs k h) (signed-back o w16 (getD xs k (pos 0)) (f k))

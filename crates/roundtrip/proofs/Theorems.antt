@@ -37,10 +37,11 @@ use Rattle.samples.specs.declared.Layout.{Layout}
 use Rattle.samples.proofs.AtCursor.{stands}
 use Rattle.samples.proofs.Plans.{plan-chunk}
 use Rattle.samples.proofs.Ready.{bytesIn, effect-ready}
-use Rattle.writer.specs.Data.{runOf, timeOf}
+use Rattle.lay.specs.Numbers.{int64}
+use Rattle.lay.specs.Runs.{runOf}
 use Rattle.writer.specs.Write.{mayWrite, writeOf, writtenOut}
 use Rattle.writer.proofs.Laws.{taken-size, next-given}
-use Rattle.writer.proofs.Runs.{body-length}
+use Rattle.writer.proofs.Bodies.{body-length}
 use Rattle.writer.proofs.Theorems.{behind-header, ahead-of-laid}
 use Rattle.roundtrip.proofs.Numbers.{Number, none, bytesOne, valueAt, AllFit, bodyOf, one-length, numbers-back}
 use Rattle.roundtrip.proofs.Values.{values-same, pair-at}
@@ -103,9 +104,9 @@ module _ (float : Bool) (o : Order) (s : List ℕ) (c : Cursor) (code : ℕ) (ti
   pub samples-back : (p k size : ℕ) (says : Says) → stepOf o s c .item ≡ gives (chunk p k size says) → samplesAt o s c ≡ runOf (bytesOne float o) xs
   samples-back p k size says e =
       let ys = runOf (bytesOne float o) xs in
-      let n : length (timeOf o time) ≡ 8 = bytes-length o 8 (ofZ w64 time) in
-      let m : size - 8 ≡ length ys = omega (arith, chunk-is p k size says e .1, length-append (timeOf o time) ys) in
-      let q : drop 20 (drop (c .place) s) ≡ ys ++ h .rest = rw (h .ahead, ← drop-drop 8 12 (chunkBytes o code (bodyOf float o time xs) ++ h .rest), behind-header o code (bodyOf float o time xs) (h .rest), append-assoc (timeOf o time) ys (h .rest)) (drop-at (timeOf o time) (ys ++ h .rest) 8 n) in
+      let n : length (int64 o time) ≡ 8 = bytes-length o 8 (ofZ w64 time) in
+      let m : size - 8 ≡ length ys = omega (arith, chunk-is p k size says e .1, length-append (int64 o time) ys) in
+      let q : drop 20 (drop (c .place) s) ≡ ys ++ h .rest = rw (h .ahead, ← drop-drop 8 12 (chunkBytes o code (bodyOf float o time xs) ++ h .rest), behind-header o code (bodyOf float o time xs) (h .rest), append-assoc (int64 o time) ys (h .rest)) (drop-at (int64 o time) (ys ++ h .rest) 8 n) in
       rw (e, q, m) (take-at ys (h .rest) (length ys) refl)
 
   lie : (channel : ℕ) (l : Layout) → layoutAt float o s c channel ≡ gives l →

@@ -3,13 +3,14 @@ use Prim.Native.Nat.{ℕ, zero, suc, _+_, _*_, _^_, _≤_, _<_}
 use mathlib.Core.Path.{_≡_, refl, sym, ap, _∙_}
 use mathlib.Core.Bool.{Bool, true, false}
 use mathlib.Core.List.{List, [], _∷_, _++_, append-assoc}
+use native.Mathlib.Nat.{mul-comm}
 use native.Mathlib.Omega.{arith}
 use borrow.Author.Tests.{le-ltb, le-leb, lt-ltb, ltb-true, ltb-false, leb-true, eqb-true, ne-eqb}
 use lib.Dec.{T, eqb, ltb, leb}
 use lib.Ieee.{Float, binary32, ofBits, toBits, fits}
 use lib.Ieee.Bits.{ofBits-toBits, toBits-lt}
 use lib.IntN.{ℤ, pos, negsuc, natAbs}
-use lib.ListN.{length, getD, length-append}
+use lib.ListN.{length, take, getD, length-append}
 use lib.Signed.{leZ}
 use mir.Syntax.{w32, w64}
 use mir.Val.{SFits, toZ, ofZ}
@@ -30,9 +31,11 @@ use Rattle.body.proofs.Groups.{listed-many, listed-whole, packed-head, packed-o
 use Rattle.body.proofs.Laws.{negative32, is-pattern}
 use Rattle.state.specs.Good.{isZero, isPlusZero, anyNumber, offset, nothing, goodFrom, goodHead, goodList, goodGroup, goodFrequencies, goodGains}
 use Rattle.state.proofs.Tests.{plus-zero-pattern}
-use Rattle.typed.specs.Bodies.{int64, float32}
-use Rattle.typed.specs.Groups.{laid, atMost, counted, packingBody, hertzBody, gainsBody}
-use Rattle.typed.proofs.Laid.{laid-length}
+use Rattle.lay.specs.Numbers.{int64}
+use Rattle.lay.specs.Runs.{runOf}
+use Rattle.lay.proofs.Values.{first-length}
+use Rattle.typed.specs.Bodies.{float32}
+use Rattle.typed.specs.Groups.{atMost, counted, packingBody, hertzBody, gainsBody}
 use Rattle.typed.proofs.Numbers.{number-at, value-at}
 
 -- ---- lists of sixteen
@@ -112,10 +115,10 @@ gains-many o g h = counted-many 4 4 o (g .n) _ _ h (simp (length-append, bytes-l
 -- ---- the size
 
 -- a count and n values of w bytes
-pub values-size : {A : Type 0} (o : Order) (w n : ℕ) (pattern : A → ℕ) (xs : List A) → n ≤ length xs → length (counted o n (laid (λ x. bytesOf o w (pattern x)) n xs)) ≡ 4 + w * n
+pub values-size : {A : Type 0} (o : Order) (w n : ℕ) (pattern : A → ℕ) (xs : List A) → n ≤ length xs → length (counted o n (runOf (λ x. bytesOf o w (pattern x)) (take n xs))) ≡ 4 + w * n
 values-size o w n pattern xs h =
-    let l = laid (λ x. bytesOf o w (pattern x)) n xs in
-    omega (arith, length-append (bytesOf o 4 (atMost 17 n)) l, bytes-length o 4 (atMost 17 n), laid-length (λ x. bytesOf o w (pattern x)) w (λ x. bytes-length o w (pattern x)) n xs h)
+    let l = runOf (λ x. bytesOf o w (pattern x)) (take n xs) in
+    omega (arith, length-append (bytesOf o 4 (atMost 17 n)) l, bytes-length o 4 (atMost 17 n), first-length (λ x. bytesOf o w (pattern x)) w (λ x. bytes-length o w (pattern x)) xs n h, mul-comm w n)
 
 -- ---- GIQP
 
@@ -137,7 +140,7 @@ head-back false a n h e = rw (is-pattern 1 a (omega arith), is-pattern n a (omeg
 
 pub packing-size : (o : Order) (g : GroupPacking) → g .n ≤ length (g .offsets) → length (packingBody o g) ≡ 12 + 4 * g .n
 unfolding packingBody
-packing-size o g h = simp (length-append, bytes-length) (omega (arith, laid-length (bytesOf o 4) 4 (bytes-length o 4) (g .n) (g .offsets) h))
+packing-size o g h = simp (length-append, bytes-length) (omega (arith, first-length (bytesOf o 4) 4 (bytes-length o 4) (g .offsets) (g .n) h))
 
 module _ (o : Order) (g : GroupPacking) (few : 1 ≤ g .n) (many : g .n ≤ 16) (all : length (g .offsets) ≡ 16)
     (step : g .increment < 2 ^ 32) (fit : (c : ℕ) → c < g .n → getD (g .offsets) c 0 < 2 ^ 32) where
@@ -151,7 +154,7 @@ module _ (o : Order) (g : GroupPacking) (few : 1 ≤ g .n) (many : g .n ≤ 16) 
   increment = bytesOf o 4 (g .increment)
 
   abbrev offsets : List ℕ
-  offsets = laid (bytesOf o 4) (g .n) (g .offsets)
+  offsets = runOf (bytesOf o 4) (take (g .n) (g .offsets))
 
   packing-read : giqp o (packingBody o g) ≡ packed o (packingBody o g) (g .n)
   unfolding packingBody
@@ -229,7 +232,7 @@ module _ (o : Order) (g : GroupHertz) (good : goodFrequencies g ≡ true) (few :
   hertz-back =
       let b = both-true (leb (g .n) 16) (goodFrom anyNumber isZero (g .n) 0 (g .values)) good in
       let many = leb-true (g .n) 16 (b .0) in
-      counted-back 4 8 o (g .n) (laid (int64 o) (g .n) (g .values)) (tuned o (hertzBody o g)) few many (omega arith) (values-size o 8 (g .n) (ofZ w64) (g .values) (omega arith))
+      counted-back 4 8 o (g .n) (runOf (int64 o) (take (g .n) (g .values))) (tuned o (hertzBody o g)) few many (omega arith) (values-size o 8 (g .n) (ofZ w64) (g .values) (omega arith))
       ∙ rw (list-back anyNumber isZero (pos 0) (g .n) (hertzAt o (hertzBody o g)) (g .values) (b .1) (λ c h. hertz-at c many h) (λ c h. zero-is _ h) all)
 
 -- ---- GRG_
@@ -247,7 +250,7 @@ module _ (o : Order) (g : GroupGains) (few : 1 ≤ g .n) (many : g .n ≤ 16) (a
 
   gains-read : grg o (gainsBody o g) ≡ amplified o (gainsBody o g) (g .n)
   unfolding gainsBody
-  gains-read = counted-back 4 4 o (g .n) (laid (float32 o) (g .n) (g .values)) (amplified o (gainsBody o g)) few many (omega arith) (values-size o 4 (g .n) (toBits binary32) (g .values) (omega arith))
+  gains-read = counted-back 4 4 o (g .n) (runOf (float32 o) (take (g .n) (g .values))) (amplified o (gainsBody o g)) few many (omega arith) (values-size o 4 (g .n) (toBits binary32) (g .values) (omega arith))
 
   -- a gain that is a NaN or an infinity is refused
   pub gain-refused : (c : ℕ) → c < g .n → isFinite (getD (g .values) c (ofBits binary32 0)) ≡ false → grg o (gainsBody o g) ≡ refuses 12

@@ -1,16 +1,17 @@
 -- A number is read back where its bytes stand: the kinds of fixed size read back the values that made them.
-use Prim.Native.Nat.{ℕ, _+_, _*_, _^_, _≤_, _<_}
+use Prim.Native.Nat.{ℕ, suc, _+_, _*_, _^_, _≤_, _<_}
 use mathlib.Core.Path.{_≡_, refl, sym, ap, _∙_}
 use mathlib.Core.Bool.{true}
-use mathlib.Core.List.{List, [], _++_, append-nil, append-assoc}
+use mathlib.Core.List.{List, [], _++_, append-nil}
+use native.Mathlib.Nat.{mul-comm, suc-mul, mul-le-mul-right}
 use native.Mathlib.Omega.{arith}
 use borrow.Author.Tests.{eq-eqb}
 use lib.Dec.{T}
 use lib.Ieee.{Float, binary32, ofBits, toBits, fits, lt}
 use lib.Ieee.Bits.{ofBits-toBits, toBits-lt}
 use lib.IntN.{ℤ, pos}
-use lib.ListN.{length, take, getD, length-append}
-use lib.Seq.{take-at, drop-at}
+use lib.ListN.{length, take, drop, getD, length-append}
+use lib.Seq.{take-at, drop-at, drop-append-add, getD-take, length-take-le}
 use lib.Signed.{leZ}
 use mir.Syntax.{w32, w64}
 use mir.Val.{SFits, toZ, ofZ}
@@ -25,9 +26,10 @@ use Rattle.body.specs.Levels as levels
 use Rattle.body.specs.Levels.{isFinite, dbfs, dbtg, ffs}
 use Rattle.body.specs.Numbers.{siqp, sofh, atLeast, cf, bwof}
 use Rattle.body.specs.declared.level.Level.the-variants.{FullScale, TotalGain, FloatFullScale}
-use Rattle.typed.specs.Bodies.{int32, int64, float32}
-use Rattle.typed.specs.Groups.{laid}
-use Rattle.typed.proofs.Laid.{laid-length, laid-split}
+use Rattle.lay.specs.Numbers.{int32, int64}
+use Rattle.lay.specs.Runs.{runOf}
+use Rattle.lay.proofs.Values.{first-length, run-at}
+use Rattle.typed.specs.Bodies.{float32}
 
 module _ (o : Order) where
   -- a number after so many bytes, whatever comes behind
@@ -45,14 +47,20 @@ module _ (o : Order) where
 
   -- the value at a place of a list, whose pattern takes w bytes
   pub value-at : {A : Type 0} (w : ℕ) (pattern : A → ℕ) (head : List ℕ) (q n c : ℕ) (xs : List A) (z : A) → length head ≡ q → c < n → n ≤ length xs → pattern (getD xs c z) < 256 ^ w →
-      unsignedAt w o (head ++ laid (λ x. bytesOf o w (pattern x)) n xs) (q + w * c) ≡ pattern (getD xs c z)
+      unsignedAt w o (head ++ runOf (λ x. bytesOf o w (pattern x)) (take n xs)) (q + w * c) ≡ pattern (getD xs c z)
   value-at {A} w pattern head q n c xs z e h m f =
       let bytes : A → List ℕ = λ x. bytesOf o w (pattern x) in
-      let r = laid-split bytes n c xs z h m in
-      let pre = head ++ laid bytes c xs in
-      let j : length pre ≡ q + w * c = omega (arith, length-append head (laid bytes c xs), laid-length bytes w (λ x. bytes-length o w (pattern x)) c xs (omega arith)) in
-      ap (λ (l : List ℕ). unsignedAt w o l (q + w * c)) (ap (λ (l : List ℕ). head ++ l) (r .1) ∙ sym (append-assoc head (laid bytes c xs) (bytes (getD xs c z) ++ r .0)))
-      ∙ number-at w (pattern (getD xs c z)) pre (r .0) (q + w * c) j f
+      let wide : (x : A) → length (bytes x) ≡ w = λ x. bytes-length o w (pattern x) in
+      let run = runOf bytes (take n xs) in
+      let l : length (take n xs) ≡ n = length-take-le n xs m in
+      let r : length run ≡ n * w = first-length bytes w wide xs n m in
+      let more : suc c * w ≤ n * w = mul-le-mul-right {m = suc c} {n = n} w (omega arith) in
+      let p : q + w * c ≡ length head + c * w = omega (arith, mul-comm w c) in
+      at-some w o (head ++ run) (q + w * c) (omega (arith, length-append head run, suc-mul c w))
+      ∙ ap (λ (i : ℕ). unsigned o (take w (drop i (head ++ run)))) p
+      ∙ ap (λ (t : List ℕ). unsigned o (take w t)) (drop-append-add head run (c * w))
+      ∙ ap (unsigned o) (run-at bytes w wide z (take n xs) c (omega arith))
+      ∙ rw (getD-take n xs c z h) (read-written o w (pattern (getD xs c z)) f)
 
   -- a body of one number
   alone : (k x : ℕ) → x < 256 ^ k → unsignedAt k o (bytesOf o k x) 0 ≡ x

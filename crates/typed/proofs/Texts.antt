@@ -15,9 +15,9 @@ use Rattle.text.specs.Utf8.{isUtf8}
 use Rattle.body.specs.Plain.{padded, texts, text}
 use Rattle.body.specs.Plain as plain
 use Rattle.body.proofs.Texts.{text-length}
-use Rattle.writer.specs.Write.{splice}
+use Rattle.lay.specs.Splice.{overlaid}
+use Rattle.lay.proofs.Splice.{laid-first, laid-on}
 use Rattle.typed.specs.Texts.{textBody}
-use Rattle.typed.proofs.Laid.{after}
 use Rattle.typed.proofs.Numbers.{number-at}
 
 abbrev zeros : ℕ → List ℕ
@@ -38,7 +38,7 @@ module _ (o : Order) (t : List ℕ) where
   text-size = simp (length-append, bytes-length, length-replicate) (omega arith)
 
   -- the length and the text, laid over zeros one after the other
-  pub text-laid : (k : ℕ) (d l m : List ℕ) → d ≡ replicate k 0 → 4 + padded (length t) ≤ k → l ≡ splice d 0 (bytesOf o 4 (length t)) → m ≡ splice l 4 t →
+  pub text-laid : (k : ℕ) (d l m : List ℕ) → d ≡ replicate k 0 → 4 + padded (length t) ≤ k → l ≡ overlaid d 0 (bytesOf o 4 (length t)) → m ≡ overlaid l 4 t →
       take (4 + padded (length t)) m ≡ textBody o t
   unfolding textBody
   text-laid k d l m z h e g =
@@ -47,7 +47,8 @@ module _ (o : Order) (t : List ℕ) where
       let n : length (x ++ t) ≡ 4 + length t = simp (length-append, bytes-length) in
       let q : length (x ++ t) + p ≡ 4 + padded (length t) = omega arith in
       let y : length d ≡ k = ap length z ∙ length-replicate k 0 in
-      ap (take (4 + padded (length t))) (after d l m x t 4 (bytes-length o 4 (length t)) (omega arith) e g)
+      let i = bytes-length o 4 (length t) in
+      ap (take (4 + padded (length t))) (laid-on 0 d l m x t 4 (omega arith) (omega arith) (laid-first d l 0 x (omega arith) e) g)
       ∙ ap (λ (i : ℕ). take i ((x ++ t) ++ drop (0 + length (x ++ t)) d)) (sym q)
       ∙ take-append-add (x ++ t) (drop (0 + length (x ++ t)) d) p
       ∙ ap (λ (i : List ℕ). (x ++ t) ++ take p (drop (0 + length (x ++ t)) i)) z

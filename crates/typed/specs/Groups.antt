@@ -9,12 +9,9 @@ use Rattle.num.specs.declared.Order.{Order}
 use Rattle.body.specs.declared.group.GroupPacking.{GroupPacking}
 use Rattle.body.specs.declared.group.GroupHertz.{GroupHertz}
 use Rattle.body.specs.declared.group.GroupGains.{GroupGains}
-use Rattle.writer.specs.Data.{runOf}
-use Rattle.typed.specs.Bodies.{int64, float32}
-
--- the bytes of each of the first n values, one after the other
-abbrev pub laid : {A : Type 0} → (A → List ℕ) → ℕ → List A → List ℕ
-laid bytes n xs = runOf bytes (take n xs)
+use Rattle.lay.specs.Numbers.{int64}
+use Rattle.lay.specs.Runs.{runOf}
+use Rattle.typed.specs.Bodies.{float32}
 
 -- n, or the limit where n is above it
 abbrev pub atMost : ℕ → ℕ → ℕ
@@ -26,12 +23,12 @@ counted o n rest = bytesOf o 4 (atMost 17 n) ++ rest
 
 -- GIQP: the count, the packing, the increment, the offsets; one of 2^31 or more stands as a negative number, which the row refuses
 unfoldable pub packingBody : Order → GroupPacking → List ℕ
-packingBody o g = counted o (g .n) (bytesOf o 4 (pick (g .iq) 1 0) ++ (bytesOf o 4 (g .increment) ++ laid (bytesOf o 4) (g .n) (g .offsets)))
+packingBody o g = counted o (g .n) (bytesOf o 4 (pick (g .iq) 1 0) ++ (bytesOf o 4 (g .increment) ++ runOf (bytesOf o 4) (take (g .n) (g .offsets))))
 
 -- GCF_: the count, the frequencies
 unfoldable pub hertzBody : Order → GroupHertz → List ℕ
-hertzBody o g = counted o (g .n) (laid (int64 o) (g .n) (g .values))
+hertzBody o g = counted o (g .n) (runOf (int64 o) (take (g .n) (g .values)))
 
 -- GRG_: the count, the gains; a NaN stands by its one pattern, which the row refuses
 unfoldable pub gainsBody : Order → GroupGains → List ℕ
-gainsBody o g = counted o (g .n) (laid (float32 o) (g .n) (g .values))
+gainsBody o g = counted o (g .n) (runOf (float32 o) (take (g .n) (g .values)))

@@ -1,13 +1,15 @@
 // The group kinds, each written from a count of channels and their values.
 ghost use mathlib.Core.Path.{_≡_};
-ghost use Prim.Native.Nat.{_≤_};
-ghost use lib.ListN.{length};
+ghost use Prim.Native.Nat.{_+_, _*_, _≤_};
+ghost use lib.ListN.{length, take};
 ghost use Rattle.num.specs.Choice.{pick};
+ghost use Rattle.lay.specs.Runs.{runOf};
+ghost use Rattle.lay.specs.Splice.{overlaid};
 ghost use Rattle.body.specs.Kind.{codeOf};
 ghost use Rattle.body.specs.declared.kind.Kind.the-variants as K;
 ghost use Rattle.writer.specs.Write.{writeOf, writtenOut, writtenSaid};
+ghost use Rattle.typed.specs.Bodies.{float32};
 ghost use Rattle.typed.specs.Groups.{atMost, packingBody, hertzBody, gainsBody};
-use crate::lay;
 use body::group::GroupGains;
 use body::group::GroupHertz;
 use body::group::GroupPacking;
@@ -28,6 +30,19 @@ fn packing_of(iq: bool) -> u32
     if iq { 1 } else { 0 }
 }
 
+// The first n of some values, from the place `at` on.
+fn floats(order: Order, xs: [f32; 16], n: usize, out: &mut [u8], at: usize)
+    requires { ⌜ (n ≤ 16) × (at + 4 * n ≤ length (now out)) ⌝ }
+    ensures { λ _. ⌜ now (out .exit) ≡ overlaid (now (out .entry)) at (runOf (float32 order) (take n xs)) ⌝ }
+{
+    let mut c = 0;
+    while c < n {
+        let word = num::u32_bytes(order, body::level::pattern(xs[c]));
+        lay::bytes(&word, out, at + 4 * c);
+        c += 1;
+    }
+}
+
 // GIQP: how the pairs of group chunks are packed.
 pub fn giqp(order: Order, packing: GroupPacking, out: &mut [u8], place: usize) -> Written
     ensures said { λ r. ⌜ writtenSaid r ≡ writeOf order (codeOf K.GIQP) (packingBody order packing) (length (now (out .entry))) place ⌝ }
@@ -36,11 +51,15 @@ pub fn giqp(order: Order, packing: GroupPacking, out: &mut [u8], place: usize) -
     let n = packing.n;
     let offsets = packing.offsets;
     let used = at_most(16, n);
+    let head = [
+        at_most(17, n) as u32,
+        packing_of(packing.iq),
+        packing.increment,
+    ];
+    let given: &[u32] = &offsets;
     let mut body = [0u8; 76];
-    lay::word(order, at_most(17, n) as u32, &mut body, 0);
-    lay::word(order, packing_of(packing.iq), &mut body, 4);
-    lay::word(order, packing.increment, &mut body, 8);
-    lay::words(order, offsets, used, &mut body, 12);
+    lay::runs::words(order, &head, &mut body, 0);
+    lay::runs::words(order, &given[..used], &mut body, 12);
     let all: &[u8] = &body;
     let end = 12 + 4 * used;
     writer::write(order, 0x4749_5150, &all[..end], out, place)
@@ -54,9 +73,11 @@ pub fn gcf(order: Order, hertz: GroupHertz, out: &mut [u8], place: usize) -> Wri
     let n = hertz.n;
     let values = hertz.values;
     let used = at_most(16, n);
+    let head = [at_most(17, n) as u32];
+    let given: &[i64] = &values;
     let mut body = [0u8; 132];
-    lay::word(order, at_most(17, n) as u32, &mut body, 0);
-    lay::longs(order, values, used, &mut body, 4);
+    lay::runs::words(order, &head, &mut body, 0);
+    lay::runs::longs(order, &given[..used], &mut body, 4);
     let all: &[u8] = &body;
     let end = 4 + 8 * used;
     writer::write(order, 0x4743_465F, &all[..end], out, place)
@@ -70,9 +91,10 @@ pub fn grg(order: Order, gains: GroupGains, out: &mut [u8], place: usize) -> Wri
     let n = gains.n;
     let values = gains.values;
     let used = at_most(16, n);
+    let head = [at_most(17, n) as u32];
     let mut body = [0u8; 68];
-    lay::word(order, at_most(17, n) as u32, &mut body, 0);
-    lay::floats(order, values, used, &mut body, 4);
+    lay::runs::words(order, &head, &mut body, 0);
+    floats(order, values, used, &mut body, 4);
     let all: &[u8] = &body;
     let end = 4 + 4 * used;
     writer::write(order, 0x4752_475F, &all[..end], out, place)

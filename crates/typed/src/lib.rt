@@ -2,7 +2,6 @@
 pub mod band;
 pub mod empty;
 pub mod group;
-mod lay;
 pub mod level;
 pub mod number;
 pub mod plain;

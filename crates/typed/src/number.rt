@@ -3,8 +3,8 @@ ghost use mathlib.Core.Path.{_≡_};
 ghost use lib.ListN.{length};
 ghost use Rattle.body.specs.Kind.{codeOf};
 ghost use Rattle.body.specs.declared.kind.Kind.the-variants as K;
+ghost use Rattle.lay.specs.Numbers.{int32, int64};
 ghost use Rattle.writer.specs.Write.{writeOf, writtenOut, writtenSaid};
-ghost use Rattle.typed.specs.Bodies.{int32, int64};
 use num::Order;
 use writer::Written;
 

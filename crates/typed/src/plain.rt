@@ -5,7 +5,6 @@ ghost use Rattle.body.specs.Kind.{codeOf};
 ghost use Rattle.body.specs.declared.kind.Kind.the-variants as K;
 ghost use Rattle.writer.specs.Write.{writeOf, writtenOut, writtenSaid};
 ghost use Rattle.typed.specs.Texts.{textBody};
-use crate::lay;
 use num::Order;
 use writer::Written;
 
@@ -29,8 +28,9 @@ pub fn text(order: Order, bytes: &[u8], out: &mut [u8], place: usize) -> Written
         return Written::BadSize;
     }
     let mut body = room();
-    lay::word(order, n as u32, &mut body, 0);
-    lay::put(bytes, &mut body, 4);
+    let head = [n as u32];
+    lay::runs::words(order, &head, &mut body, 0);
+    lay::bytes(bytes, &mut body, 4);
     let all: &[u8] = &body;
     let end = 4 + (n + 3) / 4 * 4;
     writer::write(order, 0x5445_5854, &all[..end], out, place)

@@ -14,6 +14,8 @@ use Rattle.num.specs.Number.{bytesOf}
 use Rattle.num.specs.declared.Order.{Order}
 use Rattle.num.specs.declared.Order.the-variants.{Big, Little}
 use Rattle.num.proofs.Laws.{Bytes, bytes-length}
+use Rattle.lay.specs.Splice.{splice}
+use Rattle.lay.proofs.Splice.{splice-nothing, length-splice, splice-splice}
 use Rattle.frame.specs.declared.At.{At}
 use Rattle.frame.specs.declared.At.the-variants.{NoSync, Bad, Unfinished, Complete}
 use Rattle.frame.specs.Place.{syncBytes, starts, goodSize, shows, gap, orderOf}
@@ -22,11 +24,11 @@ use Rattle.frame.proofs.Laws.{starts-self, order-big, order-little}
 use Rattle.frame.proofs.Frames.{complete, chunk-shows, frames-nil, moves}
 use Rattle.frame.proofs.Theorems.{bytes-whole}
 use Rattle.body.specs.declared.fault.Fault.the-variants as F
-use Rattle.writer.specs.Write.{splice, headerBytes, writeOf, writtenSaid}
+use Rattle.writer.specs.Write.{headerBytes, writeOf, writtenSaid}
 use Rattle.writer.specs.Records.{Record, chunkOf, recordsOf, Each, IsChunk, Taken, WellFormed, Typed, writtenAll, writeAll}
 use Rattle.writer.specs.declared.Written.{Written}
 use Rattle.writer.specs.declared.Written.the-variants.{Next, PastEnd, BadSize, Malformed, NoRoom}
-use Rattle.writer.proofs.Laws.{splice-nothing, length-splice, splice-splice, header-length, taken-size, written}
+use Rattle.writer.proofs.Laws.{header-length, taken-size, written}
 
 -- ---- records are read back
 

@@ -1,40 +1,25 @@
 -- The bodies of the data kinds: a time, then numbers in the order in which they are given.
 use Prim.Native.Nat.{ℕ, _-_, _%_}
 use mathlib.Core.Path.{_≡_}
-use mathlib.Core.List.{List, [], _∷_, _++_}
+use mathlib.Core.List.{List, _++_}
 use lib.Dec.{leb, eqb}
 use lib.IntN.{ℤ}
 use lib.ListN.{length}
-use mir.Syntax.{w16, w64}
-use mir.Val.{ofZ}
 use Rattle.num.specs.Answer.{Answer, gives, refuses}
 use Rattle.num.specs.Choice.{pick, both}
 use Rattle.num.specs.Number.{bytesOf}
 use Rattle.num.specs.declared.Order.{Order}
+use Rattle.lay.specs.Numbers.{int16, int64}
+use Rattle.lay.specs.Runs.{runOf}
 use Rattle.body.specs.Kind.{kindOf}
 use Rattle.body.specs.Verdict.{verdict}
 
--- the bytes of some numbers, one after the other, where those of each are known
-unfoldable pub runOf : {A : Type 0} → (A → List ℕ) → List A → List ℕ
-runOf bytes [] = []
-runOf bytes (x ∷ xs) = bytes x ++ runOf bytes xs
-
--- a signed number of 16 bits, and a pattern of 32
-abbrev pub short : Order → ℤ → List ℕ
-short o x = bytesOf o 2 (ofZ w16 x)
-
-abbrev pub pattern : Order → ℕ → List ℕ
-pattern o x = bytesOf o 4 x
-
--- an int64 time
-abbrev pub timeOf : Order → ℤ → List ℕ
-timeOf o time = bytesOf o 8 (ofZ w64 time)
-
+-- signed numbers of 16 bits, and patterns of 32, after an int64 time
 abbrev pub shortBody : Order → ℤ → List ℤ → List ℕ
-shortBody o time samples = timeOf o time ++ runOf (short o) samples
+shortBody o time samples = int64 o time ++ runOf (int16 o) samples
 
 abbrev pub patternBody : Order → ℤ → List ℕ → List ℕ
-patternBody o time samples = timeOf o time ++ runOf (pattern o) samples
+patternBody o time samples = int64 o time ++ runOf (bytesOf o 4) samples
 
 -- the verdict on a data body by its size alone: 11 unless it has a time and then whole samples of so many bytes each
 abbrev pub wholeSamples : ℕ → ℕ → Answer (Unit {0})

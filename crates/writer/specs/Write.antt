@@ -3,11 +3,12 @@ use Prim.Native.Nat.{ℕ, _+_, _-_}
 use mathlib.Core.Bool.{Bool, true, false}
 use mathlib.Core.List.{List, _++_}
 use lib.Dec.{ltb}
-use lib.ListN.{length, take, drop}
+use lib.ListN.{length}
 use Rattle.num.specs.Answer.{Answer, gives, refuses, then}
 use Rattle.num.specs.Choice.{pick}
 use Rattle.num.specs.Number.{bytesOf}
 use Rattle.num.specs.declared.Order.{Order}
+use Rattle.lay.specs.Splice.{splice}
 use Rattle.frame.specs.Place.{syncBytes, goodSize}
 use Rattle.frame.specs.Frames.{chunkBytes}
 use Rattle.body.specs.Fault.{faultNumber}
@@ -17,10 +18,6 @@ use Rattle.body.specs.declared.fault.Checked.{Checked}
 use Rattle.body.specs.declared.fault.Checked.the-variants as C
 use Rattle.writer.specs.declared.Written.{Written}
 use Rattle.writer.specs.declared.Written.the-variants.{Next, PastEnd, BadSize, Malformed, NoRoom}
-
--- what a slice d holds after the bytes vs are laid over it from the place `at` on
-abbrev pub splice : List ℕ → ℕ → List ℕ → List ℕ
-splice d at vs = take at d ++ (vs ++ drop (at + length vs) d)
 
 -- the front of a chunk: sync word, type, size
 abbrev pub headerBytes : Order → ℕ → ℕ → List ℕ

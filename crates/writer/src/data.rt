@@ -3,8 +3,10 @@ ghost use mathlib.Core.Path.{_≡_};
 ghost use mathlib.Core.List.{_++_};
 ghost use Prim.Native.Nat.{_+_, _*_, _≤_};
 ghost use lib.ListN.{length};
-ghost use Rattle.writer.specs.Data.{timeOf, wholeSamples};
-ghost use Rattle.writer.specs.Write.{splice, headerBytes, writeBy, writtenSaid};
+ghost use Rattle.lay.specs.Numbers.{int64};
+ghost use Rattle.lay.specs.Splice.{splice};
+ghost use Rattle.writer.specs.Data.{wholeSamples};
+ghost use Rattle.writer.specs.Write.{headerBytes, writeBy, laidBy, writtenSaid};
 use crate::Written;
 use body::fault::Fault;
 use num::Order;
@@ -14,7 +16,7 @@ pub(crate) const FRONT: usize = 20;
 
 // The answer for `count` numbers of `wide` bytes, in samples of `unit` bytes, and a slice of `whole` bytes. The count is
 // tested before it is multiplied, so that no size overflows.
-pub(crate) fn answer(wide: usize, unit: usize, count: usize, whole: usize, place: usize) -> Written
+fn answer(wide: usize, unit: usize, count: usize, whole: usize, place: usize) -> Written
     requires { ⌜ (1 ≤ wide) × (wide ≤ 4) × (1 ≤ unit) ⌝ }
     ensures { λ r. ⌜ writtenSaid r ≡ writeBy (wholeSamples unit (8 + count * wide)) (8 + count * wide) whole place ⌝ }
 {
@@ -39,11 +41,33 @@ pub(crate) fn answer(wide: usize, unit: usize, count: usize, whole: usize, place
 }
 
 // The front of a data chunk: its header and its time.
-pub(crate) fn put_front(order: Order, code: u32, size: u32, time: i64, out: &mut [u8], place: usize)
+fn put_front(order: Order, code: u32, size: u32, time: i64, out: &mut [u8], place: usize)
     requires { ⌜ place + 20 ≤ length (now out) ⌝ }
-    ensures { λ _. ⌜ now (out .exit) ≡ splice (now (out .entry)) place (headerBytes order code size ++ timeOf order time) ⌝ }
+    ensures { λ _. ⌜ now (out .exit) ≡ splice (now (out .entry)) place (headerBytes order code size ++ int64 order time) ⌝ }
 {
     crate::put_header(order, code, size, out, place);
-    let bytes = num::i64_bytes(order, time);
-    crate::put(&bytes, out, place + frame::HEADER)
+    let times = [time];
+    lay::runs::longs(order, &times, out, place + frame::HEADER);
+}
+
+// A data chunk up to its samples: the answer for `count` numbers, and the front where that is a next place.
+pub(crate) fn begin(
+    order: Order,
+    code: u32,
+    wide: usize,
+    unit: usize,
+    count: usize,
+    time: i64,
+    out: &mut [u8],
+    place: usize,
+) -> Written
+    requires { ⌜ (1 ≤ wide) × (wide ≤ 4) × (1 ≤ unit) ⌝ }
+    ensures said { λ r. ⌜ writtenSaid r ≡ writeBy (wholeSamples unit (8 + count * wide)) (8 + count * wide) (length (now (out .entry))) place ⌝ }
+    ensures left { λ r. ⌜ now (out .exit) ≡ laidBy (writtenSaid r) (now (out .entry)) place (headerBytes order code (8 + count * wide) ++ int64 order time) ⌝ }
+{
+    let answered = answer(wide, unit, count, out.len(), place);
+    if let Written::Next(_) = answered {
+        put_front(order, code, (8 + count * wide) as u32, time, out, place);
+    }
+    answered
 }

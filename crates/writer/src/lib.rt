@@ -6,9 +6,9 @@ pub mod shorts;
 ghost use mathlib.Core.Path.{_≡_};
 ghost use Prim.Native.Nat.{_+_, _≤_, _<_};
 ghost use lib.ListN.{length};
-ghost use Rattle.num.specs.Number.{bytesOf};
 ghost use Rattle.frame.specs.Frames.{chunkBytes};
-ghost use Rattle.writer.specs.Write.{splice, headerBytes, writeOf, writtenOut, writtenSaid, isGood};
+ghost use Rattle.lay.specs.Splice.{splice};
+ghost use Rattle.writer.specs.Write.{headerBytes, writeOf, writtenOut, writtenSaid, isGood};
 use body::fault::Checked;
 use body::fault::Fault;
 use num::Order;
@@ -26,56 +26,13 @@ pub enum Written {
     NoRoom,
 }
 
-// All of src over all of out, which is as long, the first few bytes by themselves. A compiler makes vectors of the loop.
-fn fill(src: &[u8], few: usize, out: &mut [u8])
-    requires { ⌜ (length (now src) ≡ length (now out)) × (few ≤ length (now src)) ⌝ }
-    ensures { λ _. ⌜ now (out .exit) ≡ now (src .entry) ⌝ }
-{
-    let mut j = 0;
-    while j < few {
-        out[j] = src[j];
-        j += 1;
-    }
-    while j < src.len() {
-        out[j] = src[j];
-        j += 1;
-    }
-}
-
-// How many of so many bytes come before the first that lies at a multiple of 16, from a place on. A long run of bytes is
-// copied faster from there: out is taken to lie at such an address itself. For a short run it does not pay.
-fn lead(at: usize, count: usize) -> usize
-    ensures { λ r. ⌜ r ≤ count ⌝ }
-{
-    if count < 256 { 0 } else { (16 - at % 16) % 16 }
-}
-
-// All of src into out, from the place `at` on.
-fn put(src: &[u8], out: &mut [u8], at: usize)
-    requires { ⌜ at + length (now src) ≤ length (now out) ⌝ }
-    ensures { λ _. ⌜ now (out .exit) ≡ splice (now (out .entry)) at (now (src .entry)) ⌝ }
-{
-    let end = at + src.len();
-    fill(src, lead(at, src.len()), &mut out[at..end])
-}
-
-// The four bytes of a number.
-fn put_word(order: Order, x: u32, out: &mut [u8], at: usize)
-    requires { ⌜ at + 4 ≤ length (now out) ⌝ }
-    ensures { λ _. ⌜ now (out .exit) ≡ splice (now (out .entry)) at (bytesOf order 4 x) ⌝ }
-{
-    let word = num::u32_bytes(order, x);
-    put(&word, out, at)
-}
-
 // A header: sync word, type and size.
 fn put_header(order: Order, code: u32, size: u32, out: &mut [u8], place: usize)
     requires { ⌜ place + 12 ≤ length (now out) ⌝ }
     ensures { λ _. ⌜ now (out .exit) ≡ splice (now (out .entry)) place (headerBytes order code size) ⌝ }
 {
-    put_word(order, frame::SYNC, out, place);
-    put_word(order, code, out, place + 4);
-    put_word(order, size, out, place + 8);
+    let words = [frame::SYNC, code, size];
+    lay::runs::words(order, &words, out, place);
 }
 
 // A whole chunk: header and body.
@@ -86,7 +43,7 @@ fn put_chunk(order: Order, code: u32, body: &[u8], out: &mut [u8], place: usize)
 {
     let size = body.len() as u32;
     put_header(order, code, size, out, place);
-    put(body, out, place + frame::HEADER)
+    lay::bytes(body, out, place + frame::HEADER);
 }
 
 // Whether a verdict finds nothing wrong.

@@ -1,6 +1,9 @@
 -- The chunk is laid exactly where the answer is a next place, and a next place means that there is room for it.
 use borrow.Author.Needs.{needs}
 use native.Mathlib.Omega.{arith}
+use lib.ListN.{length}
+use Rattle.body.specs.Kind.{kindOf}
+use Rattle.body.specs.Verdict.{verdict}
 use Rattle.writer.proofs.Laws.{next-room, next-left, other-left}
 use Rattle.writer.proofs.write.Statement.{statement}
 use Rattle.writer.proofs.write.Tie as tie
@@ -15,7 +18,7 @@ put-chunk-requires : tie.Need-put-chunk-requires
 put-chunk-requires c κs =
     let e = c .before .before .before in
     let a = e .before .before .before .args in
-    let r = next-room (a .order) (a .code) (a .body .now) (a .out .now) (a .place) (e .answer .result) (e .answer .ensures) (c .before .enum-told .given .1) in
+    let r = next-room (verdict (a .order) (kindOf (a .code)) (a .body .now)) (length (a .body .now)) (length (a .out .now)) (a .place) (e .answer .result) (e .answer .ensures) (c .before .enum-told .given .1) in
     (r .fits, omega arith)
 
 same-length : tie.Need-same-length

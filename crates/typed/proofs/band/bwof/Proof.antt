@@ -1,18 +1,28 @@
--- The body is the bytes of the two numbers.
+-- The two numbers fill the body.
+use mathlib.Core.List.{_++_}
+use mathlib.Core.Path.{_≡_}
+use lib.ListN.{length, replicate, length-append}
 use mir.Syntax.{w64}
 use mir.ValLaws.{toZ-ofZ}
+use Rattle.num.proofs.Laws.{bytes-length}
+use Rattle.lay.specs.Numbers.{int64}
+use Rattle.lay.proofs.Splice.{laid-whole}
+use Rattle.lay.proofs.Values.{run-two}
+use Rattle.body.specs.Kind.{codeOf}
+use Rattle.body.specs.declared.kind.Kind.the-variants.{BWOF}
+use Rattle.typed.proofs.Writes.{same-body}
 use borrow.Author.Needs.{needs}
 use Rattle.typed.proofs.band.bwof.Statement.{statement}
 use Rattle.typed.proofs.band.bwof.Tie as tie
 
-i64-bytes-requires : tie.Need-i64-bytes-requires
-i64-bytes-requires c κs = search needs
+slice-aggregate-longs : tie.Need-slice-aggregate-longs
+slice-aggregate-longs c = search needs
 
-i64-bytes-requires-2 : tie.Need-i64-bytes-requires-2
-i64-bytes-requires-2 c κs = search needs
+slice-aggregate-longs-2 : tie.Need-slice-aggregate-longs-2
+slice-aggregate-longs-2 c = search needs
 
-joined-requires : tie.Need-joined-requires
-joined-requires c κs = search needs
+longs-requires : tie.Need-longs-requires
+longs-requires c κs = search needs
 
 slice-aggregate-write : tie.Need-slice-aggregate-write
 slice-aggregate-write c = search needs
@@ -25,16 +35,21 @@ same-length c = search needs
 
 returns : tie.Need-returns
 returns c =
-    let a = c .before .before .before .before .before .before .before .before .before in
-    rw (c .before .before .before .before .before .joined .ensures, c .before .before .before .before .before .before .before .i64-bytes .ensures, c .before .before .before .before .before .before .i64-bytes2 .ensures, toZ-ofZ w64 (a .args .bandwidth) (a .fits .bandwidth), toZ-ofZ w64 (a .args .offset) (a .fits .offset)) at (c .before .before .write .ensures)
+    let l = c .before .before .before .before .before .before in
+    let s = l .before .before .before .before in
+    let a = s .args in
+    let body = int64 (a .order) (a .bandwidth) ++ int64 (a .order) (a .offset) in
+    let n : length body ≡ 16 = simp (length-append, bytes-length) in
+    let laid = rw (toZ-ofZ w64 (a .bandwidth) (s .fits .bandwidth), toZ-ofZ w64 (a .offset) (s .fits .offset), run-two (int64 (a .order)) (a .bandwidth) (a .offset)) at (l .longs .ensures .1) in
+    same-body (a .order) (codeOf BWOF) _ body (a .out .now) (a .place) _ _ (laid-whole (replicate 16 0) _ body n laid) (c .before .before .write .ensures)
 
 pub bwof-spec : {M : Type 1} → statement M
 bwof-spec =
     tie.close
     (tie.spec
-    i64-bytes-requires
-    i64-bytes-requires-2
-    joined-requires
+    slice-aggregate-longs
+    slice-aggregate-longs-2
+    longs-requires
     slice-aggregate-write
     write-requires
     same-length

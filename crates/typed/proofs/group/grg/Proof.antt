@@ -7,6 +7,7 @@ use lib.Ieee.{Float, binary32, toBits}
 use Rattle.num.specs.Number.{bytesOf}
 use Rattle.num.proofs.Laws.{bytes-length}
 use Rattle.typed.specs.Bodies.{float32}
+use Rattle.lay.proofs.Values.{run-one}
 use Rattle.body.specs.Kind.{codeOf}
 use Rattle.body.specs.declared.kind.Kind.the-variants.{GRG}
 use Rattle.typed.specs.Groups.{atMost, gainsBody}
@@ -22,14 +23,17 @@ at-most-requires c κs = search needs
 at-most-requires-2 : tie.Need-at-most-requires-2
 at-most-requires-2 c κs = search needs
 
-cast-word : tie.Need-cast-word
-cast-word c = search needs
+cast-t13 : tie.Need-cast-t13
+cast-t13 c = search needs
 
-slice-aggregate-word : tie.Need-slice-aggregate-word
-slice-aggregate-word c = search needs
+slice-aggregate-words : tie.Need-slice-aggregate-words
+slice-aggregate-words c = search needs
 
-word-requires : tie.Need-word-requires
-word-requires c κs = search needs
+slice-aggregate-words-2 : tie.Need-slice-aggregate-words-2
+slice-aggregate-words-2 c = search needs
+
+words-requires : tie.Need-words-requires
+words-requires c κs = search needs
 
 slice-aggregate-floats : tie.Need-slice-aggregate-floats
 slice-aggregate-floats c = search needs
@@ -64,12 +68,15 @@ unfolding gainsBody
 returns c =
     let l = c .before .before .before .before .before .before .before in
     let w = l .before .before .before in
-    let m = w .before .before in
+    let m = w .before .before .before in
     let a = m .before .before .before .before .args in
+    let o = a .order in
     let n = a .gains .n in
     let u = m .before .at-most in
-    let e = group-laid (float32 (a .order)) 4 (λ (x : Float). bytes-length (a .order) 4 (toBits binary32 x)) (a .gains .values) (replicate 68 0) _ _ (bytesOf (a .order) 4 (atMost 17 n)) (u .result) n 4 (sixteen (m .before .before)) (u .ensures .0) (u .ensures .1) (bytes-length (a .order) 4 (atMost 17 n)) (omega arith) (rw (m .at-most2 .ensures .0) at (w .word .ensures)) (l .floats .ensures) in
-    same-body (a .order) (codeOf GRG) _ (gainsBody (a .order) (a .gains)) (a .out .now) (a .place) _ _ e (c .before .before .write .ensures)
+    let head = bytesOf o 4 (atMost 17 n) in
+    let h = rw (m .at-most2 .ensures .0, run-one (bytesOf o 4) (atMost 17 n)) at (w .words .ensures .1) in
+    let e = group-laid (float32 o) 4 (λ (x : Float). bytes-length o 4 (toBits binary32 x)) (a .gains .values) (replicate 68 0) _ _ head (u .result) n 4 (sixteen (m .before .before)) (u .ensures .0) (u .ensures .1) (bytes-length o 4 (atMost 17 n)) (omega arith) h (l .floats .ensures) in
+    same-body o (codeOf GRG) _ (gainsBody o (a .gains)) (a .out .now) (a .place) _ _ e (c .before .before .write .ensures)
 
 pub grg-spec : {M : Type 1} → statement M
 grg-spec =
@@ -77,9 +84,10 @@ grg-spec =
     (tie.spec
     at-most-requires
     at-most-requires-2
-    cast-word
-    slice-aggregate-word
-    word-requires
+    cast-t13
+    slice-aggregate-words
+    slice-aggregate-words-2
+    words-requires
     slice-aggregate-floats
     floats-requires
     slice-aggregate-all

@@ -1,7 +1,10 @@
 -- The length is laid first, and the text where it ends; what is left of the room is zero.
 use mathlib.Core.Path.{sym}
 use native.Mathlib.Omega.{arith}
+use lib.ListN.{length}
 use lib.Seq.{length-take-le}
+use Rattle.num.specs.Number.{bytesOf}
+use Rattle.lay.proofs.Values.{run-one}
 use Rattle.body.specs.Kind.{codeOf}
 use Rattle.body.specs.declared.kind.Kind.the-variants.{TEXT}
 use Rattle.typed.specs.Texts.{textBody}
@@ -24,20 +27,23 @@ returns-2 c =
 room-requires : tie.Need-room-requires
 room-requires c κs = search needs
 
-cast-word : tie.Need-cast-word
-cast-word c = search needs
+cast-t13 : tie.Need-cast-t13
+cast-t13 c = search needs
 
-slice-aggregate-word : tie.Need-slice-aggregate-word
-slice-aggregate-word c = search needs
+slice-aggregate-words : tie.Need-slice-aggregate-words
+slice-aggregate-words c = search needs
 
-word-requires : tie.Need-word-requires
-word-requires c κs = search needs
+slice-aggregate-words-2 : tie.Need-slice-aggregate-words-2
+slice-aggregate-words-2 c = search needs
 
-slice-aggregate-put : tie.Need-slice-aggregate-put
-slice-aggregate-put c = search needs
+words-requires : tie.Need-words-requires
+words-requires c κs = search needs
 
-put-requires : tie.Need-put-requires
-put-requires c κs = search needs
+slice-aggregate-bytes : tie.Need-slice-aggregate-bytes
+slice-aggregate-bytes c = search needs
+
+bytes-requires : tie.Need-bytes-requires
+bytes-requires c κs = search needs
 
 slice-aggregate-all : tie.Need-slice-aggregate-all
 slice-aggregate-all c = search needs
@@ -62,11 +68,12 @@ same-length c = search needs
 
 returns-3 : tie.Need-returns-3
 returns-3 c =
-    let p = c .before .before .before .before .before .before .before in
-    let w = p .before .before .before in
-    let r = w .before .before in
+    let b = c .before .before .before .before .before .before .before in
+    let w = b .before .before .before in
+    let r = w .before .before .before in
     let a = r .before .before .before .before .before .args in
-    let e = text-laid (a .order) (a .bytes .now) 69632 _ _ _ (r .room .ensures) (omega arith) (w .word .ensures) (p .put .ensures) in
+    let h = rw (run-one (bytesOf (a .order) 4) (length (a .bytes .now))) at (w .words .ensures .1) in
+    let e = text-laid (a .order) (a .bytes .now) 69632 _ _ _ (r .room .ensures) (omega arith) h (b .bytes .ensures .1) in
     same-body (a .order) (codeOf TEXT) _ (textBody (a .order) (a .bytes .now)) (a .out .now) (a .place) _ _ e (c .before .before .write .ensures)
 
 pub text-spec : {M : Type 1} → statement M
@@ -76,11 +83,12 @@ text-spec =
     returns
     returns-2
     room-requires
-    cast-word
-    slice-aggregate-word
-    word-requires
-    slice-aggregate-put
-    put-requires
+    cast-t13
+    slice-aggregate-words
+    slice-aggregate-words-2
+    words-requires
+    slice-aggregate-bytes
+    bytes-requires
     slice-aggregate-all
     add-end
     mul-end

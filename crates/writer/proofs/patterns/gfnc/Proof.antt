@@ -4,7 +4,7 @@ use mir.Syntax.{w64}
 use mir.ValLaws.{toZ-ofZ}
 use Rattle.body.specs.Kind.{kindOf, kindIn, known}
 use Rattle.body.specs.Verdict.{verdict}
-use Rattle.writer.proofs.Runs.{timed-sized}
+use Rattle.writer.proofs.Bodies.{timed-sized}
 use borrow.Author.Needs.{needs}
 use Rattle.writer.proofs.patterns.gfnc.Statement.{statement}
 use Rattle.writer.proofs.patterns.gfnc.Tie as tie

@@ -1,0 +1,3 @@
+pub mod Splice
+pub mod Stored
+pub mod Values
