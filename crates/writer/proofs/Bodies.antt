@@ -26,8 +26,9 @@ use Rattle.frame.specs.Frames.{chunkBytes}
 use Rattle.body.specs.Samples.{timed}
 use Rattle.body.specs.Verdict.{seen}
 use Rattle.body.specs.declared.data.Data.{Data}
-use Rattle.writer.specs.Data.{wholeSamples, BySize}
-use Rattle.writer.specs.Write.{headerBytes, writeBy, writeOf, laidBy, writtenOut, writtenSaid}
+use Rattle.writer.specs.Inner.Data.{wholeSamples, BySize}
+use Rattle.writer.specs.Inner.Write.{headerBytes}
+use Rattle.writer.specs.Write.{writeBy, writeOf, laidBy, writtenOut, writtenSaid}
 use Rattle.writer.specs.declared.Written.{Written}
 use Rattle.writer.specs.declared.Written.the-variants as W
 use Rattle.writer.proofs.Written.{the-type}
@@ -80,6 +81,15 @@ pub record Begun (o : Order) (code place : ℕ) (time : ℤ) (ys d d₁ : List �
   pub long : length (int64 o time ++ ys) ≡ size
   pub said : writtenSaid a ≡ writeBy (wholeSamples unit size) size (length d) place
   pub left : d₁ ≡ laidBy (writtenSaid a) d place (headerBytes o code size ++ int64 o time)
+
+-- one of numbers of w bytes each
+pub begun : {A : Type 0} (bytes : A → List ℕ) (w : ℕ) → ((x : A) → length (bytes x) ≡ w) → (o : Order) (code unit place : ℕ) (time : ℤ) (xs : List A) (d d₁ : List ℕ) (a : Written) →
+    BySize o code unit →
+    (writtenSaid a ≡ writeBy (wholeSamples unit (8 + length xs * w)) (8 + length xs * w) (length d) place)
+    × (d₁ ≡ laidBy (writtenSaid a) d place (headerBytes o code (8 + length xs * w) ++ int64 o time)) →
+    Begun o code place time (runOf bytes xs) d d₁ a
+begun bytes w wide o code unit place time xs d d₁ a b e =
+    record { unit = unit; size = 8 + length xs * w; sized = b; long = body-length bytes w wide o time xs; said = e .0; left = e .1 }
 
 module _ {o : Order} {code place : ℕ} {time : ℤ} {ys d d₁ : List ℕ} {a : Written} (b : Begun o code place time ys d d₁ a) where
   -- the answer is that of the raw call

@@ -24,7 +24,8 @@ use Rattle.body.specs.Kind.{kindOf}
 use Rattle.body.specs.Verdict.{verdict}
 use Rattle.body.specs.declared.fault.Checked.{Checked}
 use Rattle.body.specs.declared.fault.Checked.the-variants as C
-use Rattle.writer.specs.Write.{headerBytes, mayBy, writeBy, mayWrite, writeOf, laidBy, writtenOut, writtenSaid, isGood}
+use Rattle.writer.specs.Inner.Write.{headerBytes, isGood}
+use Rattle.writer.specs.Write.{mayBy, writeBy, mayWrite, writeOf, laidBy, writtenOut, writtenSaid}
 use Rattle.writer.specs.declared.Written.{Written}
 use Rattle.writer.specs.declared.Written.the-variants as W
 use Rattle.writer.proofs.Written.{the-type}

@@ -24,7 +24,8 @@ use Rattle.frame.proofs.Laws.{starts-self, order-big, order-little}
 use Rattle.frame.proofs.Frames.{complete, chunk-shows, frames-nil, moves}
 use Rattle.frame.proofs.Theorems.{bytes-whole}
 use Rattle.body.specs.declared.fault.Fault.the-variants as F
-use Rattle.writer.specs.Write.{headerBytes, writeOf, writtenSaid}
+use Rattle.writer.specs.Inner.Write.{headerBytes}
+use Rattle.writer.specs.Write.{writeOf, writtenSaid}
 use Rattle.writer.specs.Records.{Record, chunkOf, recordsOf, Each, IsChunk, Taken, WellFormed, Typed, writtenAll, writeAll}
 use Rattle.writer.specs.declared.Written.{Written}
 use Rattle.writer.specs.declared.Written.the-variants.{Next, PastEnd, BadSize, Malformed, NoRoom}

@@ -1,3 +1,4 @@
 pub mod Write
 pub mod Data
 pub mod Records
+pub mod Inner

@@ -1,27 +1,19 @@
 -- Writing one record, its type and its body, at a place of a slice: the answer, and what the slice holds afterwards.
 use Prim.Native.Nat.{ℕ, _+_, _-_}
-use mathlib.Core.Bool.{Bool, true, false}
-use mathlib.Core.List.{List, _++_}
+use mathlib.Core.List.{List}
 use lib.Dec.{ltb}
 use lib.ListN.{length}
 use Rattle.num.specs.Answer.{Answer, gives, refuses, then}
 use Rattle.num.specs.Choice.{pick}
-use Rattle.num.specs.Number.{bytesOf}
 use Rattle.num.specs.declared.Order.{Order}
 use Rattle.lay.specs.Splice.{splice}
-use Rattle.frame.specs.Place.{syncBytes, goodSize}
+use Rattle.frame.specs.Place.{goodSize}
 use Rattle.frame.specs.Frames.{chunkBytes}
 use Rattle.body.specs.Fault.{faultNumber}
 use Rattle.body.specs.Kind.{kindOf}
 use Rattle.body.specs.Verdict.{verdict}
-use Rattle.body.specs.declared.fault.Checked.{Checked}
-use Rattle.body.specs.declared.fault.Checked.the-variants as C
 use Rattle.writer.specs.declared.Written.{Written}
 use Rattle.writer.specs.declared.Written.the-variants.{Next, PastEnd, BadSize, Malformed, NoRoom}
-
--- the front of a chunk: sync word, type, size
-abbrev pub headerBytes : Order → ℕ → ℕ → List ℕ
-headerBytes o code size = syncBytes o ++ (bytesOf o 4 code ++ bytesOf o 4 size)
 
 -- a record of so many bytes, with the verdict on its body, may be written: 32 where its size is not good, then 11 to 15
 abbrev pub mayBy : Answer (Unit {0}) → ℕ → Answer (Unit {0})
@@ -58,8 +50,3 @@ writtenSaid PastEnd = refuses 2
 writtenSaid BadSize = refuses 32
 writtenSaid (Malformed fault) = refuses (faultNumber fault)
 writtenSaid NoRoom = refuses 31
-
--- a verdict finds nothing wrong
-abbrev pub isGood : Checked → Bool
-isGood C.Good = true
-isGood (C.Malformed fault) = false

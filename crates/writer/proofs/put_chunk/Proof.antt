@@ -5,7 +5,7 @@ use native.Mathlib.Omega.{arith}
 use lib.ListN.{length}
 use Rattle.lay.specs.Splice.{splice}
 use Rattle.lay.proofs.Splice.{laid-on}
-use Rattle.writer.specs.Write.{headerBytes}
+use Rattle.writer.specs.Inner.Write.{headerBytes}
 use Rattle.writer.proofs.Laws.{header-length, after-header}
 use borrow.Author.Needs.{needs}
 use Rattle.writer.proofs.put_chunk.Statement.{statement}

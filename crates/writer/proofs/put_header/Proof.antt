@@ -1,7 +1,7 @@
 -- The three words are the header.
 use native.Mathlib.Omega.{arith}
 use Rattle.lay.proofs.Splice.{laid-first}
-use Rattle.writer.specs.Write.{headerBytes}
+use Rattle.writer.specs.Inner.Write.{headerBytes}
 use Rattle.writer.proofs.Laws.{header-run, header-length}
 use borrow.Author.Needs.{needs}
 use Rattle.writer.proofs.put_header.Statement.{statement}

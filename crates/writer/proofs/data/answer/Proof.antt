@@ -7,7 +7,7 @@ use native.Mathlib.Omega.{arith}
 use borrow.Author.Tests.{lt-ltb, le-ltb, eq-eqb, ne-eqb, not-true, not-false}
 use Rattle.num.specs.Answer.{gives}
 use Rattle.frame.specs.Place.{goodSize}
-use Rattle.writer.specs.Data.{wholeSamples}
+use Rattle.writer.specs.Inner.Data.{wholeSamples}
 use Rattle.writer.proofs.Bodies.{too-large, whole-rest}
 use borrow.Author.Needs.{needs}
 use Rattle.writer.proofs.data.answer.Statement.{statement}

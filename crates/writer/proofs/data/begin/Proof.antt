@@ -6,8 +6,8 @@ use mathlib.Core.List.{_++_}
 use mir.Syntax.{w64}
 use mir.ValLaws.{toZ-ofZ}
 use Rattle.lay.specs.Numbers.{int64}
-use Rattle.writer.specs.Data.{wholeSamples}
-use Rattle.writer.specs.Write.{headerBytes}
+use Rattle.writer.specs.Inner.Data.{wholeSamples}
+use Rattle.writer.specs.Inner.Write.{headerBytes}
 use Rattle.writer.proofs.Laws.{Room, next-room, untouched}
 use borrow.Author.Needs.{needs}
 use Rattle.writer.proofs.data.begin.Statement.{statement}

@@ -8,7 +8,7 @@ use Rattle.num.proofs.Laws.{bytes-length}
 use Rattle.lay.specs.Numbers.{int64}
 use Rattle.lay.proofs.Splice.{laid-on}
 use Rattle.lay.proofs.Values.{run-one}
-use Rattle.writer.specs.Write.{headerBytes}
+use Rattle.writer.specs.Inner.Write.{headerBytes}
 use Rattle.writer.proofs.Laws.{header-length}
 use borrow.Author.Needs.{needs}
 use Rattle.writer.proofs.data.put_front.Statement.{statement}

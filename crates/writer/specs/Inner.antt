@@ -1,0 +1,3 @@
+-- What only the promises of private functions use.
+pub mod Data
+pub mod Write
