@@ -145,26 +145,12 @@ module _ {A : Type 0} (value : ℕ → A) where
   unfolding realsOf
   reals-next out j h = rw (add-one j) (laid-next (realsOf value j) (value j) out j (length-reals j) h)
 
-  -- two numbers more
   -- one value more behind a front of n values
   pub reals-behind : (front back : List A) (n i : ℕ) → length front ≡ n → i < length back → set (front ++ laid (realsOf value i) back) (n + i) (value i) ≡ front ++ laid (realsOf value (i + 1)) back
   reals-behind front back n i e h = rw (← e, set-behind front, reals-next back i h)
 
-  pub reals-two : (out : List A) (j : ℕ) → 2 * j + 1 < length out →
-      set (set (laid (realsOf value (2 * j)) out) (2 * j) (value (2 * j))) (2 * j + 1) (value (2 * j + 1)) ≡ laid (realsOf value (2 * (j + 1))) out
-  reals-two out j h =
-      let e : 2 * (j + 1) ≡ 2 * j + 1 + 1 = omega arith in
-      rw (e, reals-next out (2 * j) (omega arith)) (reals-next out (2 * j + 1) h)
-
   pub reals-length : (out : List A) (n : ℕ) → n ≤ length out → length (laid (realsOf value n) out) ≡ length out
   reals-length out n h = laid-length (realsOf value n) out (omega (arith, length-reals n))
-
-  -- the first places of the slice hold the numbers, and the others what they held
-  pub reals-front : (out : List A) (n : ℕ) → take n (laid (realsOf value n) out) ≡ realsOf value n
-  reals-front out n = take-at (realsOf value n) _ n (length-reals n)
-
-  pub reals-rest : (out : List A) (n : ℕ) → drop n (laid (realsOf value n) out) ≡ drop n out
-  reals-rest out n = rw (drop-at (realsOf value n) _ n (length-reals n), length-reals n)
 
 -- pairs that stand one after the other, I first, are the numbers as they stand
 module _ {A : Type 0} (value : ℕ → A) where

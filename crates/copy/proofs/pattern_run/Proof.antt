@@ -1,48 +1,39 @@
 -- After j turns the first j pairs are laid; they stand one after the other, which is step 1.
-use Prim.Native.Nat.{_+_, _-_, _*_, _≤_}
-use mathlib.Core.Path.{_≡_, refl, ap, _∙_}
+use Prim.Native.Nat.{ℕ, _+_, _-_, _*_, _<_, _≤_}
 use native.Mathlib.Omega.{arith}
 use lib.ListN.{length}
-use Rattle.copy.specs.Samples.{patternAt, pairsOf, laid, placeOf}
-use Rattle.copy.proofs.Laws.{pairs-next, pairs-length, pair-inside, pairs-room}
+use Rattle.copy.specs.Samples.{patternAt, placeOf}
+use Rattle.copy.proofs.Laws.{pair-inside, pairs-room}
+use Rattle.copy.proofs.Turns.{Grown, grown-none, grown-pair, grown-all}
 use borrow.Author.Needs.{needs}
 use Rattle.copy.proofs.pattern_run.Statement.{statement}
 use Rattle.copy.proofs.pattern_run.Tie as tie
 
 abbrev Inv-loop : tie.InvT-loop
-Inv-loop order iq src first pairs out₀ j₀ out j = (j ≤ pairs) × (out ≡ laid (pairsOf (patternAt order src) iq first 1 j) out₀)
+Inv-loop order iq src first pairs out₀ j₀ out j = Grown (patternAt order src) iq first 1 pairs out₀ j₀ out j
 
 abbrev μ-loop : tie.MeasureT-loop
 μ-loop order iq src first pairs out₀ j₀ out j = pairs - j
 
--- the pair of this turn lies inside
-turn : (c : tie.In-loop Inv-loop μ-loop) →
-    let a = c .before .before .before .before .args in
-    (placeOf (a .first) 1 (c .before .loop .j) + 1) * (2 * 4) ≤ length (a .src .now)
-turn c =
-    let s = c .before .before .before .before in
-    let a = s .args in
-    pair-inside 4 (length (a .src .now)) (a .first) 1 (a .pairs) (length (a .out .now)) (s .pre) (c .before .loop .j) (c .loop-test .taken)
+-- a pair of the first so many lies inside
+inside : (s : tie.Start Inv-loop μ-loop) (j : ℕ) → j < s .args .pairs → (placeOf (s .args .first) 1 j + 1) * (2 * 4) ≤ length (s .args .src .now)
+inside s j h = let a = s .args in pair-inside 4 (length (a .src .now)) (a .first) 1 (a .pairs) (length (a .out .now)) (s .pre) j h
 
--- the slice is as long as it was, and has room
-long : (c : tie.At-loop Inv-loop μ-loop) →
-    let a = c .before .before .before .args in
-    (length (c .loop .out) ≡ length (a .out .now)) × (2 * a .pairs ≤ length (a .out .now))
-long c =
-    let s = c .before .before .before in
-    let a = s .args in
-    let room = pairs-room 4 (length (a .src .now)) (a .first) 1 (a .pairs) (length (a .out .now)) (s .pre) in
-    (ap length (c .loop .inv .1) ∙ pairs-length _ (a .iq) (a .first) 1 (a .out .now) (c .loop .j) (omega arith), room)
+-- the slice has room
+room : (s : tie.Start Inv-loop μ-loop) → 2 * s .args .pairs ≤ length (s .args .out .now)
+room s = let a = s .args in pairs-room 4 (length (a .src .now)) (a .first) 1 (a .pairs) (length (a .out .now)) (s .pre)
 
 loop-holds : tie.Need-loop-holds Inv-loop μ-loop
-unfolding pairsOf
-loop-holds c = (omega arith, refl)
+loop-holds c = let a = c .before .before .args in grown-none (patternAt (a .order) (a .src .now)) (a .iq) (a .first) 1 (a .pairs) (a .out .now) 0 (omega arith)
 
 add-pattern-pair : tie.Need-add-pattern-pair Inv-loop μ-loop
-add-pattern-pair c = omega (arith, turn c)
+add-pattern-pair c = let l = c .before in omega (arith, inside (l .before .before .before) (l .loop .j) (c .loop-test .taken))
 
 pattern-pair-requires : tie.Need-pattern-pair-requires Inv-loop μ-loop
-pattern-pair-requires c κs = (omega (arith, turn (c .before)), omega (arith, long (c .before .before)))
+pattern-pair-requires c κs =
+    let l = c .before .before in
+    let s = l .before .before .before in
+    (omega (arith, inside s (l .loop .j) (c .before .loop-test .taken)), omega (arith, room s))
 
 add-j : tie.Need-add-j Inv-loop μ-loop
 add-j c = search needs
@@ -54,17 +45,17 @@ loop-again : tie.Need-loop-again Inv-loop μ-loop
 loop-again c =
     let l = c .before .before .before .before .before in
     let a = l .before .before .before .args in
-    let one : a .first + l .loop .j * 1 ≡ a .first + l .loop .j = omega arith in
-    let next = rw one at (pairs-next (patternAt (a .order) (a .src .now)) (a .iq) (a .first) 1 (a .out .now) (l .loop .j) (omega (arith, long l))) in
-    (omega arith, rw (c .before .before .pattern-pair .ensures, l .loop .inv .1) next)
+    grown-pair (patternAt (a .order) (a .src .now)) (a .iq) (a .first) 1 (a .pairs) _ _ (l .loop .out) (l .loop .j) (l .loop .inv) (a .first + l .loop .j) _ (omega arith) (omega arith) (c .before .before .pattern-pair .ensures)
 
 same-length : tie.Need-same-length Inv-loop μ-loop
-same-length c = long (c .before) .0
+same-length c = c .before .loop .inv .1
 
 returns : tie.Need-returns Inv-loop μ-loop
 returns c =
-    let e : c .before .loop .j ≡ c .before .before .before .before .args .pairs = omega arith in
-    rw (← e) (c .before .loop .inv .1)
+    let l = c .before in
+    let s = l .before .before .before in
+    let a = s .args in
+    grown-all (patternAt (a .order) (a .src .now)) (a .iq) (a .first) 1 (a .pairs) (a .out .now) (l .loop .out) (l .loop .j) (l .loop .inv) (omega arith) (room s)
 
 pub pattern-run-spec : {M : Type 1} → statement M
 pattern-run-spec =

@@ -1,53 +1,38 @@
 -- After j turns the first j pairs are laid; they stand one after the other, which is step 1. The second loop goes on where the
 -- first ends.
-use Prim.Native.Nat.{_+_, _-_, _*_, _<_, _≤_}
-use mathlib.Core.Path.{_≡_, refl, ap, _∙_}
-use mathlib.Core.List.{List}
+use Prim.Native.Nat.{ℕ, _+_, _-_, _*_, _<_, _≤_}
+use mathlib.Core.Path.{_∙_}
 use native.Mathlib.Omega.{arith}
-use lib.IntN.{ℤ}
-use lib.ListN.{length, length-set}
-use Rattle.copy.specs.Samples.{shortAt, pairsOf, laid, placeOf}
-use Rattle.copy.proofs.Laws.{pairs-next, pairs-length, pair-inside, pairs-room}
+use lib.ListN.{length}
+use Rattle.copy.specs.Samples.{shortAt, placeOf}
+use Rattle.copy.proofs.Laws.{pair-inside, pairs-room}
+use Rattle.copy.proofs.Turns.{Grown, grown-none, grown-on, grown-pair, grown-all}
 use borrow.Author.Needs.{needs}
 use Rattle.copy.proofs.short_run.Statement.{statement}
 use Rattle.copy.proofs.short_run.Tie as tie
 
 abbrev Inv-loop : tie.InvT-loop
-Inv-loop order iq src first few pairs out₀ j₀ out j = (j ≤ few) × (out ≡ laid (pairsOf (shortAt order src) iq first 1 j) out₀)
+Inv-loop order iq src first few pairs out₀ j₀ out j = Grown (shortAt order src) iq first 1 pairs out₀ j₀ out j
 
 abbrev μ-loop : tie.MeasureT-loop
 μ-loop order iq src first few pairs out₀ j₀ out j = few - j
 
--- whatever slice the first loop began with
 abbrev Inv-loop2 : tie.InvT-loop2
-Inv-loop2 order iq src first few pairs out₀ j₀ out j =
-    (j ≤ pairs) × (length out ≡ length out₀)
-    × ((d : List ℤ) → 2 * pairs ≤ length d → out₀ ≡ laid (pairsOf (shortAt order src) iq first 1 j₀) d → out ≡ laid (pairsOf (shortAt order src) iq first 1 j) d)
+Inv-loop2 order iq src first few pairs out₀ j₀ out j = Grown (shortAt order src) iq first 1 pairs out₀ j₀ out j
 
 abbrev μ-loop2 : tie.MeasureT-loop2
 μ-loop2 order iq src first few pairs out₀ j₀ out j = pairs - j
 
 -- a pair of the first so many lies inside
-inside : (s : tie.Start Inv-loop μ-loop Inv-loop2 μ-loop2) (j : _) → j < s .args .pairs → (placeOf (s .args .first) 1 j + 1) * (2 * 2) ≤ length (s .args .src .now)
+inside : (s : tie.Start Inv-loop μ-loop Inv-loop2 μ-loop2) (j : ℕ) → j < s .args .pairs → (placeOf (s .args .first) 1 j + 1) * (2 * 2) ≤ length (s .args .src .now)
 inside s j h = let a = s .args in pair-inside 2 (length (a .src .now)) (a .first) 1 (a .pairs) (length (a .out .now)) (s .pre .0) j h
 
 -- the slice has room
 room : (s : tie.Start Inv-loop μ-loop Inv-loop2 μ-loop2) → 2 * s .args .pairs ≤ length (s .args .out .now)
 room s = let a = s .args in pairs-room 2 (length (a .src .now)) (a .first) 1 (a .pairs) (length (a .out .now)) (s .pre .0)
 
--- and is as long as it was
-long : (c : tie.At-loop Inv-loop μ-loop Inv-loop2 μ-loop2) → length (c .loop .out) ≡ length (c .before .before .args .out .now)
-long c =
-    let s = c .before .before in
-    let a = s .args in
-    ap length (c .loop .inv .1) ∙ pairs-length _ (a .iq) (a .first) 1 (a .out .now) (c .loop .j) (omega (arith, room s, s .pre .1))
-
-long-2 : (c : tie.At-loop2 Inv-loop μ-loop Inv-loop2 μ-loop2) → length (c .loop2 .out) ≡ length (c .before .before .before .before .args .out .now)
-long-2 c = c .loop2 .inv .1 ∙ long (c .before .before)
-
 loop-holds : tie.Need-loop-holds Inv-loop μ-loop Inv-loop2 μ-loop2
-unfolding pairsOf
-loop-holds c = (omega arith, refl)
+loop-holds c = let a = c .before .args in grown-none (shortAt (a .order) (a .src .now)) (a .iq) (a .first) 1 (a .pairs) (a .out .now) 0 (omega arith)
 
 add-short-pair : tie.Need-add-short-pair Inv-loop μ-loop Inv-loop2 μ-loop2
 add-short-pair c = let s = c .before .before .before in omega (arith, inside s (c .before .loop .j) (omega (arith, s .pre .1)))
@@ -56,7 +41,7 @@ short-pair-requires : tie.Need-short-pair-requires Inv-loop μ-loop Inv-loop2 μ
 short-pair-requires c κs =
     let l = c .before .before in
     let s = l .before .before in
-    (omega (arith, inside s (l .loop .j) (omega (arith, s .pre .1))), omega (arith, long l, room s, s .pre .1))
+    (omega (arith, inside s (l .loop .j) (omega (arith, s .pre .1))), omega (arith, room s, s .pre .1))
 
 add-j : tie.Need-add-j Inv-loop μ-loop Inv-loop2 μ-loop2
 add-j c = search needs
@@ -69,12 +54,13 @@ loop-again c =
     let l = c .before .before .before .before in
     let s = l .before .before in
     let a = s .args in
-    let one : a .first + l .loop .j * 1 ≡ a .first + l .loop .j = omega arith in
-    let next = rw one at (pairs-next (shortAt (a .order) (a .src .now)) (a .iq) (a .first) 1 (a .out .now) (l .loop .j) (omega (arith, room s, s .pre .1))) in
-    (omega arith, rw (c .before .short-pair .ensures, l .loop .inv .1) next)
+    grown-pair (shortAt (a .order) (a .src .now)) (a .iq) (a .first) 1 (a .pairs) _ _ (l .loop .out) (l .loop .j) (l .loop .inv) (a .first + l .loop .j) _ (omega arith) (omega (arith, s .pre .1)) (c .before .short-pair .ensures)
 
 loop2-holds : tie.Need-loop2-holds Inv-loop μ-loop Inv-loop2 μ-loop2
-loop2-holds c = let s = c .before .before .before in (omega (arith, s .pre .1), refl, λ d h e. e)
+loop2-holds c =
+    let l = c .before in
+    let a = l .before .before .args in
+    grown-none (shortAt (a .order) (a .src .now)) (a .iq) (a .first) 1 (a .pairs) (l .loop .out) (l .loop .j) (l .loop .inv .0)
 
 add-short-pair-2 : tie.Need-add-short-pair-2 Inv-loop μ-loop Inv-loop2 μ-loop2
 add-short-pair-2 c = omega (arith, inside (c .before .before .before .before .before) (c .before .loop2 .j) (omega arith))
@@ -83,7 +69,7 @@ short-pair-requires-2 : tie.Need-short-pair-requires-2 Inv-loop μ-loop Inv-loop
 short-pair-requires-2 c κs =
     let l = c .before .before in
     let s = l .before .before .before .before in
-    (omega (arith, inside s (l .loop2 .j) (omega arith)), omega (arith, long-2 l, room s))
+    (omega (arith, inside s (l .loop2 .j) (omega arith)), omega (arith, room s))
 
 add-j-2 : tie.Need-add-j-2 Inv-loop μ-loop Inv-loop2 μ-loop2
 add-j-2 c = search needs
@@ -95,24 +81,19 @@ loop2-again : tie.Need-loop2-again Inv-loop μ-loop Inv-loop2 μ-loop2
 loop2-again c =
     let l = c .before .before .before .before in
     let a = l .before .before .before .before .args in
-    let one : a .first + l .loop2 .j * 1 ≡ a .first + l .loop2 .j = omega arith in
-    let put = c .before .short-pair2 .ensures in (
-      omega arith,
-      ap length put ∙ simp length-set (l .loop2 .inv .1),
-      λ d h e.
-          let next = rw one at (pairs-next (shortAt (a .order) (a .src .now)) (a .iq) (a .first) 1 d (l .loop2 .j) (omega arith)) in
-          rw (put, l .loop2 .inv .2 d h e) next,
-    )
+    grown-pair (shortAt (a .order) (a .src .now)) (a .iq) (a .first) 1 (a .pairs) _ _ (l .loop2 .out) (l .loop2 .j) (l .loop2 .inv) (a .first + l .loop2 .j) _ (omega arith) (omega arith) (c .before .short-pair2 .ensures)
 
 same-length : tie.Need-same-length Inv-loop μ-loop Inv-loop2 μ-loop2
-same-length c = long-2 (c .before)
+same-length c = let l = c .before in l .loop2 .inv .1 ∙ l .before .before .loop .inv .1
 
 returns : tie.Need-returns Inv-loop μ-loop Inv-loop2 μ-loop2
 returns c =
     let l = c .before in
-    let s = l .before .before .before .before in
-    let e : l .loop2 .j ≡ s .args .pairs = omega arith in
-    rw (← e) (l .loop2 .inv .2 (s .args .out .now) (room s) (l .before .before .loop .inv .1))
+    let f = l .before .before in
+    let s = f .before .before in
+    let a = s .args in
+    let both = grown-on (shortAt (a .order) (a .src .now)) (a .iq) (a .first) 1 (a .pairs) (a .out .now) (f .loop .out) (l .loop2 .out) 0 (f .loop .j) (l .loop2 .j) (f .loop .inv) (l .loop2 .inv) in
+    grown-all (shortAt (a .order) (a .src .now)) (a .iq) (a .first) 1 (a .pairs) (a .out .now) (l .loop2 .out) (l .loop2 .j) both (omega arith) (room s)
 
 pub short-run-spec : {M : Type 1} → statement M
 short-run-spec =
