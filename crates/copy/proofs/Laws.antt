@@ -1,5 +1,5 @@
 -- Laws of copied samples: the numbers in order, values laid one by one, and when they fit.
-use Prim.Native.Nat.{ℕ, zero, suc, _+_, _-_, _*_, _/_, _%_, _≤_, _<_}
+use Prim.Native.Nat.{ℕ, zero, suc, _+_, _-_, _*_, _/_, _≤_, _<_}
 use mathlib.Core.Path.{_≡_, refl, sym, _∙_}
 use mathlib.Core.Bool.{Bool, true, false}
 use mathlib.Core.List.{List, [], _∷_, _++_, append-assoc, append-nil}
@@ -11,56 +11,8 @@ use lib.Dec.{leb, eqb}
 use lib.ListN.{length, getD, take, drop, set, length-append, length-drop}
 use lib.Seq.{drop-cons, drop-drop, set-at, append-snoc, take-at, drop-at, getD-set-same, getD-set-other}
 use Rattle.num.specs.Choice.{pick, each}
-use Rattle.num.specs.Number.{number, unsigned, bytesOf}
-use Rattle.num.specs.declared.Order.the-variants.{Big, Little}
-use Rattle.num.proofs.Laws.{Bytes, cons-bytes, elems, part-elems, written-read}
 use Rattle.num.proofs.Tests.{both-left, both-right, both-false, each-all, each-at, each-stop}
-use Rattle.copy.specs.Samples.{bytesAt, patternAt, placeOf, iOf, qOf, pairsOf, realsOf, laid, inside, pairsFit, realsFit}
-
--- the bytes of a number, written out
-pub bytes-elems : (w : ℕ) (src : List ℕ) (k : ℕ) → (k + 1) * w ≤ length src → bytesAt w src k ≡ elems (k * w) 0 w src
-bytes-elems w src k h =
-    let e : (k + 1) * w ≡ k * w + 1 * w = add-mul k 1 w in
-    rw add-zero at (part-elems (k * w) 0 w src (omega arith))
-
--- two numbers of two bytes out of one of four
-halves : (a b c d : ℕ) → a < 256 → b < 256 → c < 256 → d < 256 →
-    let w : ℕ = number (a ∷ b ∷ c ∷ d ∷ []) in
-    (w % 65536 ≡ number (a ∷ b ∷ [])) × (w / 65536 ≡ number (c ∷ d ∷ []))
-halves a b c d fa fb fc fd = (omega arith, omega arith)
-
--- a word's low half and its high are the pair's first number and its second in the little order, its second and its first in the big
-module _ (src : List ℕ) (place : ℕ) (h : (place + 1) * 4 ≤ length src) (small : (k : ℕ) → getD src k 0 < 256) where
-  whole : bytesAt 4 src place ≡ getD src (place * 4) 0 ∷ getD src (place * 4 + 1) 0 ∷ getD src (place * 4 + 2) 0 ∷ getD src (place * 4 + 3) 0 ∷ []
-  whole = rw (bytes-elems 4 src place h, add-zero (place * 4))
-
-  first : bytesAt 2 src (2 * place) ≡ getD src (place * 4) 0 ∷ getD src (place * 4 + 1) 0 ∷ []
-  first =
-      let e : 2 * place * 2 ≡ place * 4 = omega arith in
-      rw (bytes-elems 2 src (2 * place) (omega arith), e, add-zero (place * 4))
-
-  second : bytesAt 2 src (2 * place + 1) ≡ getD src (place * 4 + 2) 0 ∷ getD src (place * 4 + 3) 0 ∷ []
-  second =
-      let e : (2 * place + 1) * 2 ≡ place * 4 + 2 = omega arith in
-      let n : place * 4 + 2 + 1 ≡ place * 4 + 3 = omega arith in
-      rw (bytes-elems 2 src (2 * place + 1) (omega arith), e, add-zero (place * 4 + 2), n)
-
-  pub little-word : (patternAt Little src place % 65536 ≡ unsigned Little (bytesAt 2 src (2 * place))) × (patternAt Little src place / 65536 ≡ unsigned Little (bytesAt 2 src (2 * place + 1)))
-  little-word =
-      let p = place * 4 in
-      rw (whole, first, second) (halves (getD src p 0) (getD src (p + 1) 0) (getD src (p + 2) 0) (getD src (p + 3) 0) (small p) (small (p + 1)) (small (p + 2)) (small (p + 3)))
-
-  pub big-word : (patternAt Big src place % 65536 ≡ unsigned Big (bytesAt 2 src (2 * place + 1))) × (patternAt Big src place / 65536 ≡ unsigned Big (bytesAt 2 src (2 * place)))
-  big-word =
-      let p = place * 4 in
-      rw (whole, first, second) (halves (getD src (p + 3) 0) (getD src (p + 2) 0) (getD src (p + 1) 0) (getD src p 0) (small (p + 3)) (small (p + 2)) (small (p + 1)) (small p))
-
--- the bytes of a number of two bytes are those that it was read from
-pub short-back : (src : List ℕ) (k : ℕ) → (k + 1) * 2 ≤ length src → Bytes src → bytesOf Little 2 (unsigned Little (bytesAt 2 src k)) ≡ bytesAt 2 src k
-short-back src k h small =
-    let b = getD src (k * 2 + (0 + 1)) 0 in
-    let one : Bytes (b ∷ []) = cons-bytes [] (small (k * 2 + (0 + 1))) (λ i. record { fits = omega arith }) in
-    rw (bytes-elems 2 src k h) (written-read Little (elems (k * 2) 0 2 src) (cons-bytes (b ∷ []) (small (k * 2 + 0)) one))
+use Rattle.copy.specs.Samples.{placeOf, iOf, qOf, pairsOf, realsOf, laid, inside, pairsFit, realsFit}
 
 module _ {A : Type 0} where
   -- one value more is laid
@@ -90,9 +42,6 @@ module _ {A : Type 0} (value : ℕ → A) (iq : Bool) (first step : ℕ) where
       let e = length-pairs j in
       let l : length (xs ++ (a ∷ [])) ≡ 2 * j + 1 = omega (arith, length-append xs (a ∷ [])) in
       rw (laid-next xs a out (2 * j) e (omega arith), laid-next (xs ++ (a ∷ [])) b out (2 * j + 1) l h, append-assoc xs (a ∷ []) (b ∷ []), add-one j)
-
-  pub pairs-length : (out : List A) (n : ℕ) → 2 * n ≤ length out → length (laid (pairsOf value iq first step n) out) ≡ length out
-  pairs-length out n h = laid-length (pairsOf value iq first step n) out (omega (arith, length-pairs n))
 
   -- the first places of the slice hold the pairs, and the others what they held
   pub pairs-front : (out : List A) (n : ℕ) → take (2 * n) (laid (pairsOf value iq first step n) out) ≡ pairsOf value iq first step n

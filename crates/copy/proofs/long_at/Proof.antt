@@ -5,8 +5,7 @@ use mathlib.Core.Path.{_≡_}
 use Rattle.num.specs.Number.{unsigned}
 use Rattle.num.specs.declared.Order.the-variants.{Big}
 use Rattle.copy.specs.Samples.{bytesAt}
-use Rattle.copy.proofs.Laws.{bytes-elems}
-use Rattle.copy.proofs.Longs.{big-long}
+use Rattle.copy.proofs.Halves.{bytes-elems, big-halves}
 use borrow.Author.Needs.{needs}
 use Rattle.copy.proofs.long_at.Statement.{statement}
 use Rattle.copy.proofs.long_at.Tie as tie
@@ -70,7 +69,7 @@ returns c =
     let long : c .u64-of .result ≡ unsigned Big (bytesAt 8 (a .src .now) (a .place)) =
     rw (bytes-elems 8 (a .src .now) (a .place) (s .pre), add-zero (a .place * 8)) (c .u64-of .ensures)
     in
-    rw long (big-long (a .src .now) (a .place) (s .pre) (λ p. k .shared-slice-known .given p .fits))
+    rw long (big-halves 4 (a .src .now) (a .place) (s .pre) (k .shared-slice-known .given))
 
 pub long-at-spec : {M : Type 1} → statement M
 long-at-spec =

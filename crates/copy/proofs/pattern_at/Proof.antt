@@ -1,7 +1,7 @@
 -- The four bytes that are read are those of number k.
 use native.Mathlib.Nat.{add-zero}
 use Prim.Native.Nat.{_*_}
-use Rattle.copy.proofs.Laws.{bytes-elems}
+use Rattle.copy.proofs.Halves.{bytes-elems}
 use borrow.Author.Needs.{needs}
 use Rattle.copy.proofs.pattern_at.Statement.{statement}
 use Rattle.copy.proofs.pattern_at.Tie as tie

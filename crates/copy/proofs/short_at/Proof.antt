@@ -4,7 +4,7 @@ use mathlib.Core.Path.{_≡_, _∙_}
 use native.Mathlib.Nat.{add-zero}
 use mir.Syntax.{w16}
 use mir.Val.{toZ, ofZ}
-use Rattle.copy.proofs.Laws.{bytes-elems}
+use Rattle.copy.proofs.Halves.{bytes-elems}
 use borrow.Author.Needs.{needs}
 use Rattle.copy.proofs.short_at.Statement.{statement}
 use Rattle.copy.proofs.short_at.Tie as tie

@@ -12,7 +12,8 @@ use mir.Val.{toZ, ofZ}
 use Rattle.num.specs.Number.{unsigned, signed, bytesOf}
 use Rattle.num.specs.declared.Order.the-variants.{Big, Little}
 use Rattle.copy.specs.Samples.{bytesAt, shortAt, realsOf, laid}
-use Rattle.copy.proofs.Laws.{little-word, short-back, wanted-next, reals-behind, pairs-reals}
+use Rattle.copy.proofs.Halves.{little-halves, bytes-back}
+use Rattle.copy.proofs.Laws.{wanted-next, reals-behind, pairs-reals}
 use borrow.Author.Needs.{needs}
 use Rattle.copy.proofs.short_block.Statement.{statement}
 use Rattle.copy.proofs.short_block.Tie as tie
@@ -83,7 +84,7 @@ loop-again c =
     let a = l .before .before .args in
     let k = l .loop .k in
     let w = l .loop .inv in
-    let h = little-word (a .src .now) (a .place + k) (omega arith) (λ p. l .before .shared-slice-known .given p .fits) in
+    let h = little-halves 2 (a .src .now) (a .place + k) (omega arith) (l .before .shared-slice-known .given) in
     let e : 2 * (a .place + k) ≡ 2 * a .place + 2 * k = omega arith in
     let f : 2 * a .place + 2 * k + 1 ≡ 2 * a .place + (2 * k + 1) = omega arith in
     let one = wanted-next (Read (a .src .now) (a .place)) (l .loop .halves) (2 * k) (c .word-at .result % 65536) 0 (omega arith) (rw (c .word-at .ensures) (rw e at (h .0))) (w .2) in
@@ -132,7 +133,7 @@ loop2-again c =
     let i = l .loop2 .i in
     let at = 2 * a .place + i in
     let x = l .before .before .loop .inv .2 i (omega arith) in
-    let bytes = c .before .u16-bytes .ensures ∙ ap (bytesOf Little 2) x ∙ short-back (a .src .now) at (omega arith) (s .shared-slice-known .given) in
+    let bytes = c .before .u16-bytes .ensures ∙ ap (bytesOf Little 2) x ∙ bytes-back 2 (a .src .now) at (omega arith) (s .shared-slice-known .given) in
     let value : c .i16-of .result ≡ numbers (a .src .now) (a .place) i = c .i16-of .ensures ∙ ap (signed w16 Big) bytes in
     let back : toZ w16 (ofZ w16 (c .i16-of .result)) ≡ c .i16-of .result = search needs in
     let next = reals-behind (numbers (a .src .now) (a .place)) (take (2 * a .j) (a .out .now)) (drop (2 * a .j) (a .out .now)) (2 * a .j) i (length-take-le (2 * a .j) (a .out .now) (omega arith)) (simp length-drop (omega arith)) in

@@ -1,6 +1,6 @@
 -- The halves of the word are the two numbers: the packing and the order say whether they stand as they are wanted.
 use borrow.Author.Needs.{needs}
-use Rattle.copy.proofs.Laws.{little-word, big-word}
+use Rattle.copy.proofs.Halves.{little-halves, big-halves}
 use Rattle.copy.proofs.two_at.Statement.{statement}
 use Rattle.copy.proofs.two_at.Tie as tie
 
@@ -26,7 +26,7 @@ returns c =
     let s = w .before .before in
     let a = s .args in
     let order = i .before .enum-told .given .1 in
-    let h = big-word (a .src .now) (a .place) (s .pre) (λ p. w .before .shared-slice-known .given p .fits) in
+    let h = big-halves 2 (a .src .now) (a .place) (s .pre) (w .before .shared-slice-known .given) in
     rw (i .if1 .taken, order, c .turned .ensures .0, c .turned .ensures .1, w .word-at .ensures, order) (h .1, h .0)
 
 returns-2 : tie.Need-returns-2
@@ -35,7 +35,7 @@ returns-2 c =
     let s = w .before .before in
     let a = s .args in
     let order = c .before .enum-told .given .1 in
-    let h = big-word (a .src .now) (a .place) (s .pre) (λ p. w .before .shared-slice-known .given p .fits) in
+    let h = big-halves 2 (a .src .now) (a .place) (s .pre) (w .before .shared-slice-known .given) in
     rw (c .if1 .left, order, w .word-at .ensures, order) h
 
 returns-3 : tie.Need-returns-3
@@ -44,7 +44,7 @@ returns-3 c =
     let s = w .before .before in
     let a = s .args in
     let order = c .before .enum-told2 .given .1 in
-    let h = little-word (a .src .now) (a .place) (s .pre) (λ p. w .before .shared-slice-known .given p .fits) in
+    let h = little-halves 2 (a .src .now) (a .place) (s .pre) (w .before .shared-slice-known .given) in
     rw (c .if2 .taken, order, w .word-at .ensures, order) h
 
 returns-4 : tie.Need-returns-4
@@ -54,7 +54,7 @@ returns-4 c =
     let s = w .before .before in
     let a = s .args in
     let order = i .before .enum-told2 .given .1 in
-    let h = little-word (a .src .now) (a .place) (s .pre) (λ p. w .before .shared-slice-known .given p .fits) in
+    let h = little-halves 2 (a .src .now) (a .place) (s .pre) (w .before .shared-slice-known .given) in
     rw (i .if2 .left, order, c .turned2 .ensures .0, c .turned2 .ensures .1, w .word-at .ensures, order) (h .1, h .0)
 
 pub two-at-spec : {M : Type 1} → statement M
