@@ -5,7 +5,7 @@ use mathlib.Core.List.{List, [], _∷_, _++_, reverse, reverse-append}
 use native.Mathlib.Nat.{add-zero, add-mul, mul-comm, mul-assoc, pow-succ'}
 use native.Mathlib.Omega.{arith}
 use lib.Arith.{digits-div, digits-mod}
-use lib.ListN.{length, getD, take, drop, length-drop, length-reverse}
+use lib.ListN.{length, take, drop, length-drop, length-reverse}
 use lib.Seq.{drop-drop, take-add, length-take-le}
 use Rattle.num.specs.Number.{number, unsigned, bytesOf}
 use Rattle.num.specs.declared.Order.the-variants.{Big, Little}

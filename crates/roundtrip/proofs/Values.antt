@@ -10,7 +10,8 @@ use lib.Seq.{take-suc, getD-append-add, append-snoc}
 use borrow.Author.Tests.{le-leb, leb-true, eqb-true, eqb-false}
 use Rattle.num.specs.Choice.{each}
 use Rattle.copy.specs.Samples.{placeOf, iOf, qOf, pairsOf, realsOf, inside, pairsFit}
-use Rattle.copy.proofs.Laws.{length-pairs, pair-inside}
+use Rattle.copy.proofs.Fits.{pair-inside}
+use Rattle.copy.proofs.Laws.{length-pairs}
 use Rattle.samples.specs.Layout.{valuesOf}
 use Rattle.samples.specs.Plan.{wide, lies}
 use Rattle.samples.specs.declared.Layout.{Layout}

@@ -1,7 +1,7 @@
 -- The tests come in order: room, no pairs, the first pair, no step, and then the last pair, which is farthest on.
 use mathlib.Core.Path.{sym}
 use native.Mathlib.Omega.{arith}
-use Rattle.copy.proofs.Laws.{fit-no-room, fit-none, fit-outside, fit-same, fit-last}
+use Rattle.copy.proofs.Fits.{fit-no-room, fit-none, fit-outside, fit-same, fit-last}
 use borrow.Author.Needs.{needs}
 use Rattle.copy.proofs.pairs_fit.Statement.{statement}
 use Rattle.copy.proofs.pairs_fit.Tie as tie

@@ -7,7 +7,8 @@ use native.Mathlib.Omega.{arith}
 use lib.ListN.{length}
 use borrow.Author.Tests.{not-true, not-false}
 use Rattle.copy.specs.Samples.{patternAt, pairsOf, pairsFit}
-use Rattle.copy.proofs.Laws.{pairs-reals, pair-inside, pairs-room}
+use Rattle.copy.proofs.Fits.{pair-inside, pairs-room}
+use Rattle.copy.proofs.Laws.{pairs-reals}
 use borrow.Author.Needs.{needs}
 use Rattle.copy.proofs.pattern_pairs.Statement.{statement}
 use Rattle.copy.proofs.pattern_pairs.Tie as tie

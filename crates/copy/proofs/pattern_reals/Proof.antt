@@ -3,7 +3,8 @@ use mathlib.Core.Path.{refl, sym}
 use native.Mathlib.Omega.{arith}
 use lib.ListN.{length}
 use Rattle.copy.specs.Samples.{patternAt}
-use Rattle.copy.proofs.Laws.{reals-first, reals-outside, reals-no-room, reals-fit}
+use Rattle.copy.proofs.Fits.{reals-outside, reals-no-room, reals-fit}
+use Rattle.copy.proofs.Laws.{reals-first}
 use borrow.Author.Needs.{needs}
 use Rattle.copy.proofs.pattern_reals.Statement.{statement}
 use Rattle.copy.proofs.pattern_reals.Tie as tie

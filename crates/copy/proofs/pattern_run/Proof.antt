@@ -3,7 +3,7 @@ use Prim.Native.Nat.{ℕ, _+_, _-_, _*_, _<_, _≤_}
 use native.Mathlib.Omega.{arith}
 use lib.ListN.{length}
 use Rattle.copy.specs.Samples.{patternAt, placeOf}
-use Rattle.copy.proofs.Laws.{pair-inside, pairs-room}
+use Rattle.copy.proofs.Fits.{pair-inside, pairs-room}
 use Rattle.copy.proofs.Turns.{Grown, grown-none, grown-pair, grown-all}
 use borrow.Author.Needs.{needs}
 use Rattle.copy.proofs.pattern_run.Statement.{statement}

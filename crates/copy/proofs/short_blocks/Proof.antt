@@ -6,7 +6,7 @@ use native.Mathlib.Omega.{arith}
 use lib.ListN.{length}
 use Rattle.num.specs.declared.Order.the-variants.{Big}
 use Rattle.copy.specs.Samples.{shortAt, placeOf}
-use Rattle.copy.proofs.Laws.{pair-inside, pairs-room}
+use Rattle.copy.proofs.Fits.{pair-inside, pairs-room}
 use Rattle.copy.proofs.Turns.{Grown, grown-none, grown-on, grown-pair, grown-block, grown-all}
 use borrow.Author.Needs.{needs}
 use Rattle.copy.proofs.short_blocks.Statement.{statement}

@@ -6,7 +6,8 @@ use lib.ListN.{length}
 use mir.Syntax.{w16}
 use mir.Val.{toZ, ofZ}
 use Rattle.copy.specs.Samples.{shortAt}
-use Rattle.copy.proofs.Laws.{pairs-first, fit-all, reals-next, reals-outside, reals-no-room, reals-fit}
+use Rattle.copy.proofs.Fits.{fit-all, reals-outside, reals-no-room, reals-fit}
+use Rattle.copy.proofs.Laws.{pairs-first, reals-next}
 use borrow.Author.Needs.{needs}
 use Rattle.copy.proofs.short_reals.Statement.{statement}
 use Rattle.copy.proofs.short_reals.Tie as tie

@@ -4,7 +4,7 @@ use mathlib.Core.Path.{refl}
 use native.Mathlib.Omega.{arith}
 use lib.ListN.{length}
 use Rattle.copy.specs.Samples.{shortAt, placeOf}
-use Rattle.copy.proofs.Laws.{pair-inside, pairs-room}
+use Rattle.copy.proofs.Fits.{pair-inside, pairs-room}
 use Rattle.copy.proofs.Turns.{Grown, grown-none, grown-pair, grown-all}
 use borrow.Author.Needs.{needs}
 use Rattle.copy.proofs.short_steps.Statement.{statement}

@@ -6,7 +6,7 @@ use native.Mathlib.Omega.{arith}
 use lib.ListN.{length, length-set}
 use Rattle.num.specs.declared.Order.the-variants.{Big}
 use Rattle.copy.specs.Samples.{patternAt, placeOf}
-use Rattle.copy.proofs.Laws.{pair-inside, pairs-room}
+use Rattle.copy.proofs.Fits.{pair-inside, pairs-room}
 use Rattle.copy.proofs.Turns.{Grown, grown-none, grown-pair, grown-all}
 use borrow.Author.Needs.{needs}
 use Rattle.copy.proofs.turned_run.Statement.{statement}
