@@ -5,10 +5,8 @@ use Rattle.num.proofs.i16_bytes.Reads as i16_bytes
 use Rattle.num.proofs.i16_of.Reads as i16_of
 use Rattle.num.proofs.i32_at.Reads as i32_at
 use Rattle.num.proofs.i32_bytes.Reads as i32_bytes
-use Rattle.num.proofs.i32_of.Reads as i32_of
 use Rattle.num.proofs.i64_at.Reads as i64_at
 use Rattle.num.proofs.i64_bytes.Reads as i64_bytes
-use Rattle.num.proofs.i64_of.Reads as i64_of
 use Rattle.num.proofs.pattern16.Reads as pattern16
 use Rattle.num.proofs.pattern32.Reads as pattern32
 use Rattle.num.proofs.pattern64.Reads as pattern64
@@ -35,12 +33,6 @@ u64-of-one-answer κs a r r′ s s′ p q = p ∙ sym q
 
 pub i16-of-one-answer : OneAnswer i16_of.Post
 i16-of-one-answer κs a r r′ s s′ p q = p ∙ sym q
-
-pub i32-of-one-answer : OneAnswer i32_of.Post
-i32-of-one-answer κs a r r′ s s′ p q = p ∙ sym q
-
-pub i64-of-one-answer : OneAnswer i64_of.Post
-i64-of-one-answer κs a r r′ s s′ p q = p ∙ sym q
 
 pub u32-at-one-answer : OneAnswer u32_at.Post
 u32-at-one-answer κs a r r′ s s′ p q = p ∙ sym q

@@ -107,18 +107,6 @@ pub fn i16_of(order: Order, bytes: [u8; 2]) -> i16
     signed16(u16_of(order, bytes))
 }
 
-pub fn i32_of(order: Order, bytes: [u8; 4]) -> i32
-    ensures { λ r. ⌜ r ≡ signed w32 order bytes ⌝ }
-{
-    signed32(u32_of(order, bytes))
-}
-
-pub fn i64_of(order: Order, bytes: [u8; 8]) -> i64
-    ensures { λ r. ⌜ r ≡ signed w64 order bytes ⌝ }
-{
-    signed64(u64_of(order, bytes))
-}
-
 // The number that stands at a place of s, 0 where too few bytes are left there.
 pub fn u32_at(order: Order, s: &[u8], place: usize) -> u32
     ensures { λ r. ⌜ r ≡ unsignedAt 4 order (now (s .entry)) place ⌝ }
