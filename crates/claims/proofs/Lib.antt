@@ -8,6 +8,7 @@ pub mod Cover
 pub mod State
 pub mod Effect
 pub mod Reader
+pub mod Lay
 pub mod Writer
 pub mod Copy
 pub mod Samples
