@@ -1,6 +1,6 @@
 -- Laws of a number's bytes stored one by one, and of a number turned to an order.
 use Prim.Native.Nat.{ℕ, zero, suc, _+_, _/_, _≤_}
-use mathlib.Core.Path.{_≡_, refl, sym, ap, _∙_}
+use mathlib.Core.Path.{_≡_, sym, ap, _∙_}
 use mathlib.Core.List.{List, [], _∷_}
 use native.Mathlib.Omega.{arith}
 use native.Mathlib.Numerals.{add-one}

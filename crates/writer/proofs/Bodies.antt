@@ -12,7 +12,7 @@ use denote.Enum.Declared.{tagOf}
 use mir.Syntax.{w64}
 use mir.Val.{ofZ}
 use types.Run.{OneOf}
-use Rattle.num.specs.Answer.{Answer, gives, refuses}
+use Rattle.num.specs.Answer.{gives, refuses}
 use Rattle.num.specs.Choice.{pick, both}
 use Rattle.num.specs.declared.Order.{Order}
 use Rattle.num.proofs.Laws.{bytes-length}

@@ -1,6 +1,6 @@
 -- After c turns the first c values are laid, and the next is laid where they end.
 use Prim.Native.Nat.{_+_, _-_, _*_, _≤_}
-use mathlib.Core.Path.{_≡_, refl, _∙_}
+use mathlib.Core.Path.{_≡_, refl}
 use native.Mathlib.Omega.{arith}
 use lib.Ieee.{Float, nan, binary32, toBits}
 use lib.ListN.{length, take, getD}

@@ -1,7 +1,6 @@
 -- Count, packing and increment are laid first, and the offsets where they end.
-use Prim.Native.Nat.{_+_, _*_}
 use mathlib.Core.List.{[], _∷_}
-use mathlib.Core.Path.{_≡_, sym, ap, _∙_}
+use mathlib.Core.Path.{_≡_, sym, _∙_}
 use native.Mathlib.Omega.{arith}
 use lib.ListN.{length, take, replicate}
 use lib.Seq.{length-take-le}
