@@ -44,8 +44,9 @@ use Rattle.state.specs.declared.Values.{Values}
 use Rattle.state.proofs.Tests.{plus-zero-pattern}
 use Rattle.effect.specs.Effect.{effectBy, effect}
 use Rattle.effect.proofs.Good.{Allows, allows}
-use Rattle.writer.specs.Data.{runOf}
-use Rattle.typed.specs.Bodies.{int32, int64, float32}
+use Rattle.lay.specs.Runs.{runOf}
+use Rattle.lay.specs.Numbers.{int32, int64}
+use Rattle.typed.specs.Bodies.{float32}
 use Rattle.typed.specs.Groups.{atMost, packingBody, hertzBody, gainsBody}
 use Rattle.typed.proofs.Groups.{packing-back, hertz-back, gains-back}
 use Rattle.typed.proofs.Numbers.{siqp-back, at-least-back, cf-back, bwof-back, dbfs-back, dbtg-back, ffs-back}
