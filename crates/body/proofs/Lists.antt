@@ -13,11 +13,6 @@ module _ {A : Type 0} (f : ℕ → A) (d : A) where
   upto-none i zero = refl
   upto-none i (suc k) = rw (le-ltb i 0 (omega arith), upto-none (suc i) k)
 
-  pub upto-length : (n i k : ℕ) → length (upto f d n i k) ≡ k
-  unfolding upto
-  upto-length n i zero = refl
-  upto-length n i (suc k) = ap suc (upto-length n (suc i) k)
-
   upto-past : (n m i k : ℕ) → n ≤ i → m ≤ i → upto f d n i k ≡ upto f d m i k
   unfolding upto
   upto-past n m i zero h g = refl

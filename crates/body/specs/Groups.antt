@@ -1,5 +1,5 @@
 -- The group kinds: GIQP, GCF_, GRG_, each a count n and n values.
-use Prim.Native.Nat.{ℕ, _+_, _*_, _≤_}
+use Prim.Native.Nat.{ℕ, _+_, _*_}
 use mathlib.Core.Path.{_≡_}
 use mathlib.Core.Bool.{Bool, false}
 use mathlib.Core.List.{List}
@@ -12,11 +12,9 @@ use Rattle.num.specs.Answer.{Answer, gives, refuses}
 use Rattle.num.specs.Choice.{pick, both, either, each}
 use Rattle.num.specs.declared.Order.{Order}
 use Rattle.body.specs.Check.{int32, int64, sized, allowed, orElse}
-use Rattle.body.specs.Fault.{faultNumber, checkedSaid}
+use Rattle.body.specs.Fault.{checkedSaid}
 use Rattle.body.specs.Levels.{float32, isFinite}
 use Rattle.body.specs.Lists.{sixteen}
-use Rattle.body.specs.declared.group.Counted.{Counted}
-use Rattle.body.specs.declared.group.Counted.the-variants.{Channels, Faulty}
 use Rattle.body.specs.declared.group.GroupPacking.{GroupPacking}
 use Rattle.body.specs.declared.group.GroupHertz.{GroupHertz}
 use Rattle.body.specs.declared.group.GroupGains.{GroupGains}
@@ -40,15 +38,6 @@ given none a = orElse none (λ x. x) a
 pub record Read {A : Type 0} (checked : Checked) (value none : A) (rule : Answer A) : Type 0 where
   pub said : checkedSaid checked value ≡ rule
   pub holds : value ≡ given none rule
-
--- what each case of a count says, and the channels that it counts
-abbrev pub countSaid : Counted → Answer ℕ
-countSaid (Channels n) = gives n
-countSaid (Faulty f) = refuses (faultNumber f)
-
-abbrev pub InCount : Counted → Type 0
-InCount (Channels n) = (1 ≤ n) × (n ≤ 16)
-InCount (Faulty f) = Unit {0}
 
 -- number 13 unless a group has 1 to 16 channels
 abbrev pub counted : {A : Type 0} → ℤ → (ℕ → Answer A) → Answer A

@@ -8,8 +8,6 @@ use Rattle.num.specs.Number.{unsignedAt}
 use Rattle.num.specs.declared.Order.{Order}
 use Rattle.body.specs.Check.{sized, allowed}
 use Rattle.body.specs.Fault.{faultNumber}
-use Rattle.body.specs.declared.level.FloatRead.{FloatRead}
-use Rattle.body.specs.declared.level.FloatRead.the-variants.{Finite, Faulty}
 use Rattle.body.specs.declared.level.Level.{Level}
 use Rattle.body.specs.declared.level.Level.the-variants.{FullScale, TotalGain, FloatFullScale}
 use Rattle.body.specs.declared.level.LevelRead.{LevelRead}
@@ -25,11 +23,7 @@ isFinite nan = false
 isFinite (inf s) = false
 isFinite (fin s m e) = true
 
--- what each case of the answers says
-abbrev pub floatSaid : FloatRead → Answer Float
-floatSaid (Finite x) = gives x
-floatSaid (Faulty f) = refuses (faultNumber f)
-
+-- what each case of the answer says
 abbrev pub levelSaid : LevelRead → Answer Level
 levelSaid (Is l) = gives l
 levelSaid (Malformed f) = refuses (faultNumber f)

@@ -10,3 +10,4 @@ pub mod Plain
 pub mod Values
 pub mod Table
 pub mod Verdict
+pub mod Inner

@@ -1,7 +1,8 @@
 // The level kinds: dBFS, dBTG, FFS_.
 ghost use mathlib.Core.Path.{_≡_};
 ghost use lib.Ieee.{binary32, toBits};
-ghost use Rattle.body.specs.Levels.{floatSaid, levelSaid, finite32, dbfs, dbtg, ffs};
+ghost use Rattle.body.specs.Inner.Answers.{floatSaid};
+ghost use Rattle.body.specs.Levels.{levelSaid, finite32, dbfs, dbtg, ffs};
 use crate::fault::Fault;
 use num::Order;
 

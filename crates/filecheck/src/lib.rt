@@ -4,7 +4,7 @@ ghost use Prim.Native.Nat.{_<_, _≤_};
 ghost use lib.ListN.{length};
 ghost use Rattle.body.specs.Verdict.{verdict};
 ghost use Rattle.filecheck.specs.File.{fileSaid, partOf, isGood, fileAhead, fileOf};
-ghost use Rattle.filecheck.specs.Turn.{turnSaid, forward, Turned};
+ghost use Rattle.filecheck.specs.Inner.Turn.{turnSaid, forward, Turned};
 use body::fault::Checked;
 use body::kind::Kind;
 use frame::Ahead;

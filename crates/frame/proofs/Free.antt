@@ -13,7 +13,7 @@ use lib.Seq.{getD-drop}
 use Rattle.num.specs.Choice.{pick}
 use Rattle.num.specs.declared.Order.{Order}
 use Rattle.num.specs.declared.Order.the-variants.{Big, Little}
-use Rattle.frame.specs.Free.{Free}
+use Rattle.frame.specs.Inner.Free.{Free}
 use Rattle.frame.specs.Place.{syncBytes, starts, shows, stops, gap}
 use Rattle.frame.proofs.Laws.{never-true, sync-length, starts-split, starts-done, shows-cut, none-passes, gap-step}
 

@@ -70,11 +70,6 @@ pub is-end : (o : Order) (l : List ℕ) → aheadOf o l ≡ End → length l ≡
 is-end o [] e = refl
 is-end o (x ∷ l) e = absurd (not-end (shows o (x ∷ l)) e)
 
--- where it is not the end, there is a byte
-pub some : (o : Order) (l : List ℕ) → (aheadOf o l ≡ End → ⊥) → 0 < length l
-some o [] h = absurd (h refl)
-some o (x ∷ l) h = omega arith
-
 -- ---- what stands at the place says what is ahead
 
 pub ahead-at : (o : Order) (l : List ℕ) → 0 < length l → aheadOf o l ≡ aheadBy (shows o l)

@@ -1,4 +1,4 @@
 pub mod Place
 pub mod Ahead
 pub mod Frames
-pub mod Free
+pub mod Inner

@@ -6,7 +6,7 @@ ghost use lib.Dec.{eqb};
 ghost use lib.ListN.{length, drop};
 ghost use Rattle.num.specs.Choice.{pick};
 ghost use Rattle.frame.specs.Ahead.{aheadOf};
-ghost use Rattle.frame.specs.Free.{Free};
+ghost use Rattle.frame.specs.Inner.Free.{Free};
 ghost use Rattle.frame.specs.Place.{syncBytes, starts, goodSize, shows, searchFrom, orderOf, orderSaid};
 use num::Order;
 

@@ -14,7 +14,7 @@ use Rattle.lay.specs.Numbers.{int16, int64}
 use Rattle.lay.specs.Runs.{runOf}
 use Rattle.lay.proofs.Values.{run-at}
 use Rattle.copy.specs.Samples.{shortAt, patternAt}
-use Rattle.samples.specs.Plan.{wide}
+use Rattle.samples.specs.Inner.Plan.{wide}
 
 abbrev pub Number : Bool → Type 0
 Number true = ℕ

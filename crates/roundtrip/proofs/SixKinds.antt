@@ -25,7 +25,7 @@ use Rattle.state.specs.declared.State.{State}
 use Rattle.body.specs.Table.{shaped}
 use Rattle.samples.specs.Layout.{layout, paired, real, member, valuesOf}
 use Rattle.samples.specs.Copy.{countOf}
-use Rattle.samples.specs.Plan.{wide}
+use Rattle.samples.specs.Inner.Plan.{wide}
 use Rattle.samples.proofs.Ready.{bytesIn}
 use Rattle.roundtrip.proofs.Numbers.{Number, none}
 use Rattle.roundtrip.proofs.Values.{reals-list, pairs-list}

@@ -31,7 +31,7 @@ use Rattle.state.specs.declared.State.{State}
 use Rattle.body.specs.Table.{shaped}
 use Rattle.samples.specs.Layout.{layout, numbers, valuesOf}
 use Rattle.samples.specs.Copy.{layoutIn, layoutBy, layoutAt, countOf, samplesAt, filled}
-use Rattle.samples.specs.Plan.{wide, lies}
+use Rattle.samples.specs.Inner.Plan.{wide, lies}
 use Rattle.samples.specs.declared.Laid.the-variants as laid
 use Rattle.samples.specs.declared.Layout.{Layout}
 use Rattle.samples.proofs.AtCursor.{stands}

@@ -13,7 +13,7 @@ use Rattle.copy.specs.Samples.{placeOf, iOf, qOf, pairsOf, realsOf, inside, pai
 use Rattle.copy.proofs.Fits.{pair-inside}
 use Rattle.copy.proofs.Laws.{length-pairs}
 use Rattle.samples.specs.Layout.{valuesOf}
-use Rattle.samples.specs.Plan.{wide, lies}
+use Rattle.samples.specs.Inner.Plan.{wide, lies}
 use Rattle.samples.specs.declared.Layout.{Layout}
 
 -- both numbers of a pair

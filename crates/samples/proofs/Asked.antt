@@ -25,7 +25,7 @@ use Rattle.state.specs.State.{emptied}
 use Rattle.state.specs.declared.State.{State}
 use Rattle.samples.specs.Layout.{layout}
 use Rattle.samples.specs.Copy.{layoutIn}
-use Rattle.samples.specs.Plan.{layoutOf}
+use Rattle.samples.specs.Inner.Plan.{layoutOf}
 use Rattle.samples.proofs.Ready.{effect-ready}
 
 data-ready : (says : Says) (d : Data) → gives d ≡ readyData says → says ≡ ready d

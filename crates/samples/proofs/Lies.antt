@@ -15,7 +15,7 @@ use Rattle.body.specs.declared.data.Data.{Data}
 use Rattle.copy.specs.Samples.{inside, placeOf}
 use Rattle.cover.proofs.Theorems.{group-says}
 use Rattle.state.specs.declared.State.{State}
-use Rattle.samples.specs.Plan.{wide, lies}
+use Rattle.samples.specs.Inner.Plan.{wide, lies}
 use Rattle.samples.specs.Layout.{alone, paired, real, member, oneOf, layout}
 use Rattle.samples.specs.declared.Layout.{Layout}
 use Rattle.body.specs.declared.data.Shape.the-variants.{ShortPairs, ShortReals, ShortGroup, FloatPairs, FloatReals, FloatGroup}

@@ -19,9 +19,9 @@ use Rattle.reader.specs.Step.{stepBy, stepOf}
 use Rattle.reader.specs.declared.Cursor.{Cursor}
 use Rattle.reader.proofs.Laws.{chunk-ends, chunk-size}
 use Rattle.state.specs.declared.State.{State}
-use Rattle.samples.specs.Layout.{layout, laidSaid}
+use Rattle.samples.specs.Layout.{layout}
 use Rattle.samples.specs.Copy.{layoutIn, layoutBy, layoutAt}
-use Rattle.samples.specs.Plan.{plannedSaid, sizedBy, Sound}
+use Rattle.samples.specs.Inner.Plan.{laidSaid, plannedSaid, sizedBy, Sound}
 use Rattle.samples.specs.declared.Laid.{Laid}
 use Rattle.samples.specs.declared.Laid.the-variants as laid
 use Rattle.samples.specs.declared.Layout.{Layout}

@@ -9,7 +9,7 @@ use Rattle.num.specs.Choice.{each}
 use Rattle.num.specs.Answer.{gives, refuses}
 use Rattle.copy.specs.Samples.{inside, placeOf, pairsOf, realsOf, laid, pairsFit, realsFit}
 use Rattle.samples.specs.Copy.{counted, filled}
-use Rattle.samples.specs.Plan.{lies}
+use Rattle.samples.specs.Inner.Plan.{lies}
 use Rattle.samples.specs.declared.Layout.{Layout}
 
 module _ {A : Type 0} (value : ℕ → A) (w size room : ℕ) (l : Layout) (out : List A) (k : lies w size l ≡ true) where

@@ -14,8 +14,6 @@ use Rattle.body.specs.declared.data.Shaped.{Shaped}
 use Rattle.body.specs.declared.data.Shaped.the-variants.{Samples, NoSamples}
 use Rattle.copy.specs.Samples.{pairsOf, realsOf}
 use Rattle.state.specs.declared.State.{State}
-use Rattle.samples.specs.declared.Laid.{Laid}
-use Rattle.samples.specs.declared.Laid.the-variants.{At, NoChannel, NotReady}
 use Rattle.samples.specs.declared.Layout.{Layout}
 
 -- the shape is of the width that is asked for: 32-bit patterns of floats, or 16-bit numbers
@@ -63,11 +61,6 @@ arranged FloatGroup channel s d = oneOf channel s d
 abbrev pub layout : Bool → Shaped → ℕ → State → Data → Answer Layout
 layout float (Samples shape) channel s d = pick (hasWidth float shape) (arranged shape channel s d) (refuses 35)
 layout float NoSamples channel s d = refuses 35
-
-abbrev pub laidSaid : Laid → Answer Layout
-laidSaid (At l) = gives l
-laidSaid NoChannel = refuses 34
-laidSaid NotReady = refuses 35
 
 -- how many numbers they are, two for a pair
 abbrev pub numbers : Layout → ℕ

@@ -1,3 +1,3 @@
 pub mod Layout
 pub mod Copy
-pub mod Plan
+pub mod Inner

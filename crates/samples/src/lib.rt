@@ -4,11 +4,11 @@ pub mod shorts;
 
 ghost use mathlib.Core.Path.{_≡_};
 ghost use lib.ListN.{getD};
-ghost use Rattle.samples.specs.Layout.{hasWidth, alone, paired, real, oneOf, arranged, layout, laidSaid};
+ghost use Rattle.samples.specs.Layout.{hasWidth, alone, paired, real, oneOf, arranged, layout};
 ghost use Rattle.body.specs.Kind.{kindOf};
 ghost use Rattle.effect.specs.Effect.{effect};
 ghost use Rattle.reader.specs.Step.{before};
-ghost use Rattle.samples.specs.Plan.{plannedSaid, sizedBy, layoutOf, Sound};
+ghost use Rattle.samples.specs.Inner.Plan.{laidSaid, plannedSaid, sizedBy, layoutOf, Sound};
 ghost use Rattle.samples.specs.Copy.{layoutAt};
 use body::data;
 use body::data::Data;

@@ -4,7 +4,7 @@ ghost use mathlib.Core.Bool.{true, false};
 ghost use lib.ListN.{length};
 ghost use Rattle.num.specs.Answer.{gives};
 ghost use Rattle.copy.specs.Samples.{shortAt};
-ghost use Rattle.samples.specs.Plan.{lies};
+ghost use Rattle.samples.specs.Inner.Plan.{lies};
 ghost use Rattle.samples.specs.Copy.{copiedSaid, layoutAt, counted, countOf, samplesAt, filled};
 use crate::Copied;
 use crate::Layout;

@@ -3,7 +3,7 @@ use Prim.Native.Nat.{_+_, _-_, _≤_}
 use native.Mathlib.Omega.{arith}
 use borrow.Author.Needs.{needs}
 use borrow.Author.Tests.{not-false}
-use Rattle.frame.specs.Free.{Free}
+use Rattle.frame.specs.Inner.Free.{Free}
 use Rattle.frame.proofs.Free.{free-join}
 use Rattle.frame.proofs.eights.Statement.{statement}
 use Rattle.frame.proofs.eights.Tie as tie

@@ -5,7 +5,7 @@ use mathlib.Core.Bool.{false}
 use native.Mathlib.Omega.{arith}
 use borrow.Author.Needs.{needs}
 use borrow.Author.Tests.{not-true}
-use Rattle.frame.specs.Free.{Free}
+use Rattle.frame.specs.Inner.Free.{Free}
 use Rattle.frame.proofs.Free.{none-of, free-more}
 use Rattle.frame.proofs.free_run.Statement.{statement}
 use Rattle.frame.proofs.free_run.Tie as tie

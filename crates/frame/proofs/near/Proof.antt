@@ -2,7 +2,7 @@
 use Prim.Native.Nat.{_-_, _≤_}
 use native.Mathlib.Omega.{arith}
 use borrow.Author.Needs.{needs}
-use Rattle.frame.specs.Free.{Free}
+use Rattle.frame.specs.Inner.Free.{Free}
 use Rattle.frame.proofs.Free.{free-more}
 use Rattle.frame.proofs.near.Statement.{statement}
 use Rattle.frame.proofs.near.Tie as tie

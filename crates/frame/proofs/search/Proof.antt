@@ -11,7 +11,7 @@ use borrow.Author.Tests.{eq-eqb, ne-eqb}
 use lib.Dec.{eqb}
 use lib.ListN.{length, drop, getD}
 use Rattle.num.specs.Choice.{both}
-use Rattle.frame.specs.Free.{Free}
+use Rattle.frame.specs.Inner.Free.{Free}
 use Rattle.frame.specs.Place.{starts, shows, stops, gap}
 use Rattle.frame.proofs.Laws.{sync-length, starts-step, starts-done, shows-none, gap-step, search-none, search-here, stop-told, pass-told}
 use Rattle.frame.proofs.Free.{free-join, free-to, free-beyond}

@@ -5,7 +5,7 @@ use native.Mathlib.Omega.{arith}
 use borrow.Author.Needs.{needs}
 use Rattle.copy.specs.Samples.{shortAt}
 use Rattle.samples.specs.Copy.{samplesAt}
-use Rattle.samples.specs.Plan.{Sound}
+use Rattle.samples.specs.Inner.Plan.{Sound}
 use Rattle.samples.specs.declared.Planned.the-variants.{Go}
 use Rattle.samples.proofs.Copies.{samples-part, samples-size, copied-go, copied-not}
 use Rattle.samples.proofs.shorts.copy.Statement.{statement}

@@ -18,6 +18,11 @@ use Rattle.samples.specs.declared.Layout.{Layout}
 use Rattle.samples.specs.declared.Planned.{Planned}
 use Rattle.samples.specs.declared.Planned.the-variants.{Go, PastEnd, BadState, NotReady, NoChannel}
 
+abbrev pub laidSaid : Laid → Answer Layout
+laidSaid (laid.At l) = gives l
+laidSaid laid.NoChannel = refuses 34
+laidSaid laid.NotReady = refuses 35
+
 abbrev pub plannedSaid : Planned → Answer Layout
 plannedSaid (Go l size) = gives l
 plannedSaid PastEnd = refuses 2
