@@ -1,5 +1,7 @@
 -- The three words are the header.
+use mathlib.Core.Path.{ap, _∙_}
 use native.Mathlib.Omega.{arith}
+use Rattle.lay.specs.Splice.{overlaid}
 use Rattle.lay.proofs.Splice.{laid-first}
 use Rattle.writer.specs.Inner.Write.{headerBytes}
 use Rattle.writer.proofs.Laws.{header-run, header-length}
@@ -22,7 +24,7 @@ returns c =
     let a = w .before .before .before .before .args in
     let h = headerBytes (a .order) (a .code) (a .size) in
     let n = header-length (a .order) (a .code) (a .size) in
-    laid-first (a .out .now) _ (a .place) h (omega arith) (rw (header-run (a .order) (a .code) (a .size)) at (w .words2 .ensures .1))
+    laid-first (a .out .now) _ (a .place) h (omega arith) (w .words2 .ensures .1 ∙ ap (overlaid (a .out .now) (a .place)) (header-run (a .order) (a .code) (a .size)))
 
 pub put-header-spec : {M : Type 1} → statement M
 put-header-spec = tie.close (tie.spec slice-aggregate-words words-requires same-length returns)
