@@ -6,7 +6,7 @@ ghost use Rattle.num.specs.Choice.{pick};
 ghost use Rattle.body.specs.Samples.{dataSaid};
 ghost use Rattle.state.specs.State.{withValues};
 ghost use Rattle.effect.specs.Says.{verdictSaid};
-ghost use Rattle.effect.specs.Ready.{dataSays, covering, isReady, hertzOf, gainsOf, inGroup};
+ghost use Rattle.effect.specs.Ready.{dataSays, covering, isReady, noState, hertzOf, gainsOf, inGroup};
 ghost use Rattle.effect.specs.Effect.{timed};
 ghost use Rattle.effect.specs.Took.{Took};
 use crate::Lack;
@@ -107,14 +107,18 @@ pub struct Judged {
     pub group: bool,
 }
 
-// The state that a ready chunk shows.
-fn shows(group: bool, was: State) -> State
-    ensures { λ r. ⌜ r ≡ withValues was (pick group (inGroup (was .values)) (was .values)) ⌝ }
+// The state that a data chunk shows: none where it is not ready.
+fn shows(ready: bool, group: bool, was: State) -> State
+    ensures { λ r. ⌜ r ≡ pick ready (withValues was (pick group (inGroup (was .values)) (was .values))) noState ⌝ }
 {
-    if group {
-        was.with_values(in_group(was.values))
+    if ready {
+        if group {
+            was.with_values(in_group(was.values))
+        } else {
+            was
+        }
     } else {
-        was
+        State::empty(false)
     }
 }
 
@@ -125,16 +129,9 @@ pub(crate) fn timed(judged: Judged, was: State) -> Taken
     let verdict = judged.verdict;
     let ready = is_ready(verdict);
     let next = was.with_mark(!ready);
-    if ready {
-        return Taken {
-            verdict,
-            shown: shows(judged.group, was),
-            state: next,
-        };
-    }
     Taken {
         verdict,
-        shown: State::empty(false),
+        shown: shows(ready, judged.group, was),
         state: next,
     }
 }

@@ -1,8 +1,14 @@
 -- Whether it is ready decides what is shown and the mark.
-use mathlib.Core.Path.{refl}
+use mathlib.Core.Bool.{Bool, true, false, not}
+use mathlib.Core.Path.{_≡_, refl}
 use borrow.Author.Needs.{needs}
+use Rattle.num.specs.Choice.{pick}
 use Rattle.effect.proofs.ready.timed.Statement.{statement}
 use Rattle.effect.proofs.ready.timed.Tie as tie
+
+mark-after : (ready : Bool) → not ready ≡ pick ready false true
+mark-after true = refl
+mark-after false = refl
 
 is-ready-requires : tie.Need-is-ready-requires
 is-ready-requires c κs = search needs
@@ -16,19 +22,7 @@ shows-requires c κs = search needs
 returns : tie.Need-returns
 returns c =
     let k = c .before in
-    let r = k .before .before .is-ready in
-    record { says = refl; shown = rw (← r .ensures, k .if1 .taken, c .shows .ensures); after = rw (← r .ensures, k .before .with-mark .ensures, k .if1 .taken) }
-
-empty-requires : tie.Need-empty-requires
-empty-requires c κs = search needs
-
-returns-2 : tie.Need-returns-2
-returns-2 c =
-    let k = c .before in
-    let r = k .before .before .is-ready in
-    record { says = refl; shown = rw (← r .ensures, k .if1 .left, c .empty .ensures); after = rw (← r .ensures, k .before .with-mark .ensures, k .if1 .left) }
+    record { says = refl; shown = rw (← k .before .is-ready .ensures, c .shows .ensures); after = rw (← k .before .is-ready .ensures, k .with-mark .ensures, mark-after) }
 
 pub timed-spec : {M : Type 1} → statement M
-timed-spec =
-    tie.close
-    (tie.spec is-ready-requires with-mark-requires shows-requires returns empty-requires returns-2)
+timed-spec = tie.close (tie.spec is-ready-requires with-mark-requires shows-requires returns)
