@@ -15,13 +15,13 @@ use Rattle.num.proofs.Tests.{both-true}
 use Rattle.effect.specs.Says.{Says, ok, unknown, bad, waits, ready}
 use Rattle.frame.specs.Ahead.{aheadOf}
 use Rattle.frame.specs.declared.Ahead.{Ahead}
-use Rattle.frame.specs.declared.Ahead.the-variants.{End, Stretch, Cut, Chunk}
+use Rattle.frame.specs.declared.Ahead.the-variants.{End}
 use Rattle.frame.proofs.Looks.{is-end}
 use Rattle.frame.proofs.Frames.{frames-nil}
 use Rattle.reader.specs.Items.{Given, itemsFrom}
 use Rattle.reader.specs.Step.{Step, stepBy, stepOf, after}
 use Rattle.reader.specs.declared.Cursor.{Cursor}
-use Rattle.reader.proofs.Laws.{step-ahead, step-end, of-chunk}
+use Rattle.reader.proofs.Laws.{step-ahead, step-end, of-chunk, gives-on}
 use Rattle.reader.specs.Item.{Item, itemSaid}
 use Rattle.reader.specs.Took.{Took}
 use Rattle.reader.specs.declared.Stepped.{Stepped}
@@ -45,10 +45,9 @@ count-by : (o : Order) (l : List ℕ) (c : Cursor) (rest : List Given) (a : Ahea
     let t : Step = stepBy o l c a in
     soundCount (told (t .item) (t .shown) rest) ≡ soundIn (t .item) + soundCount rest
 unfolding soundCount
-count-by o l c rest (Chunk code size) h = refl
-count-by o l c rest Cut h = refl
-count-by o l c rest Stretch h = refl
-count-by o l c rest End h = absurd (h refl)
+count-by o l c rest a h =
+    let g = gives-on o l c a h in
+    rw (g .1, g .2)
 
 count-one : (o : Order) (s : List ℕ) (c : Cursor) → c .place < length s → Fit c → (rest : List Given) →
     let t : Step = stepOf o s c in

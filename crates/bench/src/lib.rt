@@ -59,25 +59,16 @@ fn sound(verdict: Verdict) -> usize
 fn sound_in(item: Item) -> usize
     ensures { λ r. ⌜ r ≡ soundIn (itemSaid item) ⌝ }
 {
-    match item {
-        Item::Chunk {
-            place: _,
-            code: _,
-            size: _,
-            verdict,
-        } => sound(verdict),
-        Item::PastEnd => 0,
-        Item::BadState => 0,
-        Item::End => 0,
-        Item::Skipped {
-            place: _,
-            length: _,
-        } => 0,
-        Item::Unfinished {
-            place: _,
-            length: _,
-        } => 0,
-    }
+    let Item::Chunk {
+        place: _,
+        code: _,
+        size: _,
+        verdict,
+    } = item
+    else {
+        return 0;
+    };
+    sound(verdict)
 }
 
 // How far a reader came, and how many sound items it saw.

@@ -11,13 +11,11 @@ use Rattle.num.specs.Answer.{gives, refuses}
 use Rattle.num.specs.Choice.{pick}
 use Rattle.num.specs.declared.Order.{Order}
 use Rattle.frame.specs.Place.{shows}
-use Rattle.frame.specs.Frames.{Frame, chunk, skipped, unfinished, ofChunk, frames}
+use Rattle.frame.specs.Frames.{frames}
 use Rattle.frame.specs.Ahead.{aheadOf, isChunk}
 use Rattle.frame.specs.declared.At.the-variants.{Complete}
-use Rattle.frame.specs.declared.Ahead.{Ahead}
-use Rattle.frame.specs.declared.Ahead.the-variants.{End, Stretch, Cut, Chunk}
-use Rattle.frame.proofs.Looks.{is-cut, is-stretch, is-end}
-use Rattle.frame.proofs.Frames.{frames-nil, frames-chunk, frames-cut, frames-skip}
+use Rattle.frame.proofs.Looks.{other-made}
+use Rattle.frame.proofs.Frames.{frames-nil, frames-chunk, no-chunk}
 use Rattle.body.specs.Kind.{kindOf}
 use Rattle.reader.proofs.Laws.{chunk-size}
 use Rattle.filecheck.specs.File.{FileAnswer, good, refused, partOf, wellFormed, begins, passes, onward, fileFrom, fileAhead, fileBy, fileOf}
@@ -31,22 +29,6 @@ not-header Data well e = refl
 not-header Header well e = absurd (miss (0 ∷ 2 ∷ 3 ∷ []) 1 tt e)
 not-header HeaderEnd well e = refl
 not-header Other well e = refl
-
--- ---- what is no chunk
-
--- the first frame of what is ahead is no chunk, and what is said of it is what is said of any such
-module _ (o : Order) (s : List ℕ) (place : ℕ) (h : place < length s) where
-  pub no-chunk : {X : Type 0} (said : List Frame → X) (x : X) → ((f : Frame) (rest : List Frame) → ofChunk true (λ code body. false) f ≡ true → said (f ∷ rest) ≡ x) →
-      (a : Ahead) → aheadOf o (drop place s) ≡ a → isChunk a ≡ false → said (frames o (drop place s)) ≡ x
-  no-chunk said x k End e n = absurd (omega (arith, is-end o (drop place s) e, length-drop place s))
-  no-chunk said x k Cut e n = ap said (frames-cut o s place h (is-cut o (drop place s) e)) ∙ k _ _ refl
-  no-chunk said x k Stretch e n = ap said (frames-skip o s place h (is-stretch o (drop place s) e)) ∙ k _ _ refl
-  no-chunk said x k (Chunk code size) e n = let z : _≡_ {A = ℕ} 0 1 = cc in absurd (omega arith)
-
-other-made : {X : Type 0} (other : X) (g : ℕ → List ℕ → X) (f : Frame) → ofChunk true (λ code body. false) f ≡ true → ofChunk other g f ≡ other
-other-made other g (chunk code body) e = let z : _≡_ {A = ℕ} 0 1 = cc in absurd (omega arith)
-other-made other g (skipped bytes) e = refl
-other-made other g (unfinished bytes) e = refl
 
 -- a file that shows no chunk at its start
 pub file-not : (o : Order) (s : List ℕ) → isChunk (aheadOf o s) ≡ false → fileOf o s ≡ refused 41 0

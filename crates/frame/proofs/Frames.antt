@@ -16,7 +16,12 @@ use Rattle.num.proofs.Tests.{both-true}
 use Rattle.frame.specs.declared.At.{At}
 use Rattle.frame.specs.declared.At.the-variants.{NoSync, Bad, Unfinished, Complete}
 use Rattle.frame.specs.Place.{syncBytes, starts, word, typeIn, sizeIn, goodSize, shows, stops, gap}
-use Rattle.frame.specs.Frames.{Frame, chunk, skipped, unfinished, chunkBytes, width, frameAt, first, framesBy, frames}
+use Rattle.frame.specs.declared.Ahead.{Ahead}
+use Rattle.frame.specs.declared.Ahead.the-variants.{End, Stretch, Cut, Chunk}
+use Rattle.frame.specs.Ahead.{aheadOf}
+use Rattle.frame.specs.Ahead as Ahead
+use Rattle.frame.specs.Frames.{Frame, chunk, skipped, unfinished, ofChunk, isChunk, chunkBytes, width, frameAt, first, framesBy, frames}
+use Rattle.frame.proofs.Looks.{is-cut, is-stretch, is-end}
 use Rattle.frame.proofs.Laws.{sync-length, starts-split, starts-self, take-bytes, drop-bytes, shows-headed, gap-pass}
 
 -- ---- a complete chunk
@@ -210,3 +215,24 @@ module _ (o : Order) (s : List ℕ) (p : ℕ) (h : p < length s) where
 
   pub frames-skip : stops (shows o (drop p s)) ≡ false → frames o (drop p s) ≡ skipped (take (gap o (drop p s)) (drop p s)) ∷ frames o (drop (p + gap o (drop p s)) s)
   frames-skip k = moves o s p h .rest ∙ rw (width-skip o (drop p s) k, passed (shows o (drop p s)) refl k)
+
+  -- where no chunk is ahead the first frame is none, and what is said of any such is said of the frames
+  pub no-chunk : {X : Type 0} (said : List Frame → X) (x : X) → ((f : Frame) (rest : List Frame) → isChunk f ≡ false → said (f ∷ rest) ≡ x) →
+      (a : Ahead) → aheadOf o (drop p s) ≡ a → Ahead.isChunk a ≡ false → said (frames o (drop p s)) ≡ x
+  no-chunk said x k End e n = absurd (omega (arith, is-end o (drop p s) e, length-drop p s))
+  no-chunk said x k Cut e n = ap said (frames-cut (is-cut o (drop p s) e)) ∙ k _ _ refl
+  no-chunk said x k Stretch e n = ap said (frames-skip (is-stretch o (drop p s) e)) ∙ k _ _ refl
+  no-chunk said x k (Chunk code size) e n = let z : _≡_ {A = ℕ} 0 1 = cc in absurd (omega arith)
+
+-- a chunk that was read has a good size
+sized-by : (o : Order) (l : List ℕ) (a : At) → shows o l ≡ a → ofChunk (Unit {0}) (λ type body. goodSize (length body) ≡ true) (frameAt a (gap o l) l)
+sized-by o l (Complete t n) e =
+    let k = complete o l t n e in
+    let m : length (take n (drop 12 l)) ≡ n = length-take-le n (drop 12 l) (simp length-drop (omega (arith, k .fits))) in
+    rw m (k .good)
+sized-by o l Unfinished e = tt
+sized-by o l NoSync e = tt
+sized-by o l Bad e = tt
+
+pub first-sized : (o : Order) (l : List ℕ) → ofChunk (Unit {0}) (λ type body. goodSize (length body) ≡ true) (first o l)
+first-sized o l = sized-by o l (shows o l) refl

@@ -10,6 +10,7 @@ use types.Run.{OneOf, miss}
 use Rattle.num.specs.declared.Order.{Order}
 use Rattle.frame.specs.Place.{starts, shows, stops}
 use Rattle.frame.specs.Frames.{Frame, chunk, skipped, unfinished, ofChunk}
+use Rattle.frame.specs.Frames as Frames
 use Rattle.frame.specs.Ahead.{aheadBy, aheadOf, isChunk}
 use Rattle.frame.specs.declared.At.{At}
 use Rattle.frame.specs.declared.At.the-variants.{NoSync, Bad, Unfinished, Complete}
@@ -92,3 +93,15 @@ pub of-chunk : {A : Type 0} (P : A → Type 0) (other : A) (g : ℕ → List ℕ
 of-chunk P other g (chunk code body) h k = k code body
 of-chunk P other g (skipped bytes) h k = h
 of-chunk P other g (unfinished bytes) h k = h
+
+-- a frame is a chunk, or it is none: what holds of both holds of every frame
+pub frame-by : (P : Frame → Type 0) → ((code : ℕ) (body : List ℕ) → P (chunk code body)) → ((f : Frame) → Frames.isChunk f ≡ false → P f) → (f : Frame) → P f
+frame-by P k h (chunk code body) = k code body
+frame-by P k h (skipped bytes) = h (skipped bytes) refl
+frame-by P k h (unfinished bytes) = h (unfinished bytes) refl
+
+-- what is made of a frame that is no chunk
+pub other-made {ℓ} : {A : Type ℓ} (other : A) (g : ℕ → List ℕ → A) (f : Frame) → Frames.isChunk f ≡ false → ofChunk other g f ≡ other
+other-made other g (chunk code body) e = let z : _≡_ {A = ℕ} 0 1 = cc in absurd (omega arith)
+other-made other g (skipped bytes) e = refl
+other-made other g (unfinished bytes) e = refl

@@ -1,5 +1,6 @@
 -- The frames of a stream: the chunks, the skipped stretches and the unfinished end that its bytes are cut into.
 use Prim.Native.Nat.{ℕ, zero, suc, _+_}
+use mathlib.Core.Bool.{Bool, true, false}
 use mathlib.Core.List.{List, [], _∷_, _++_}
 use lib.ListN.{length, drop, take}
 use Rattle.num.specs.Number.{bytesOf}
@@ -21,6 +22,9 @@ abbrev pub ofChunk {ℓ} : {A : Type ℓ} → A → (ℕ → List ℕ → A) →
 ofChunk other f (chunk type body) = f type body
 ofChunk other f (skipped bytes) = other
 ofChunk other f (unfinished bytes) = other
+
+abbrev pub isChunk : Frame → Bool
+isChunk f = ofChunk false (λ type body. true) f
 
 -- a chunk as it stands in a stream: sync word, type, size, body
 abbrev pub chunkBytes : Order → ℕ → List ℕ → List ℕ

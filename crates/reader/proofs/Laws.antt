@@ -2,28 +2,34 @@
 use Prim.Native.Nat.{ℕ, _+_, _-_, _≤_, _<_}
 use mathlib.Core.Path.{_≡_, refl, ap, _∙_}
 use mathlib.Core.Bool.{Bool, true, false, not}
-use mathlib.Core.List.{List}
+use mathlib.Core.List.{List, [], _∷_}
+use mathlib.Core.Logic.{_⊎_, inl, inr}
 use native.Mathlib.Omega.{arith}
+use denote.Enum.Declared.{tagOf}
 use lib.ListN.{length, take, drop, length-drop}
 use lib.Seq.{drop-drop, drop-length, length-take-le}
 use borrow.Author.Tests.{lt-ltb, le-ltb}
-use Rattle.num.specs.Answer.{gives}
+use types.Run.{OneOf, miss}
+use Rattle.num.specs.Answer.{gives, refuses}
 use Rattle.num.specs.Choice.{both}
 use Rattle.num.specs.declared.Order.{Order}
 use Rattle.frame.specs.Place.{shows, stops, gap}
 use Rattle.frame.specs.Ahead.{aheadOf}
 use Rattle.frame.specs.declared.At.the-variants.{Complete}
-use Rattle.frame.specs.declared.Ahead.the-variants.{Chunk}
+use Rattle.frame.specs.declared.Ahead.{Ahead}
+use Rattle.frame.specs.declared.Ahead.the-variants.{End, Stretch, Cut, Chunk}
 use Rattle.frame.proofs.Looks.{ahead-at, passed-by}
 use Rattle.frame.proofs.Frames.{complete}
 use Rattle.state.specs.Good.{goodState}
 use Rattle.effect.specs.Ready.{noState}
 use Rattle.effect.specs.Says.{Says}
-use Rattle.reader.specs.Item.{Item, end, skipped, unfinished, chunk, ofChunk, isEnd, placedBy, itemSaid}
+use Rattle.reader.specs.Item.{Item, end, skipped, unfinished, chunk, ofChunk, isChunk, isEnd, placedBy, itemSaid}
 use Rattle.reader.specs.Step.{refused, skips, stepBy, stepOf}
 use Rattle.reader.specs.Took.{Took}
 use Rattle.reader.specs.declared.Cursor.{Cursor}
 use Rattle.reader.specs.declared.Item as declared
+use Rattle.reader.specs.declared.Item.the-variants as variants
+use Rattle.reader.proofs.Item.{the-type}
 use Rattle.reader.specs.declared.Stepped.{Stepped}
 
 -- number 3 is due
@@ -82,6 +88,37 @@ of-chunk P other g end h k = h
 of-chunk P other g (skipped p n) h k = h
 of-chunk P other g (unfinished p n) h k = h
 of-chunk P other g (chunk p code size says) h k = k p code size says
+
+-- an item is a chunk, or it is none: what holds of both holds of every item
+pub item-by : (P : Item → Type 0) → ((p code size : ℕ) (says : Says) → P (chunk p code size says)) → ((i : Item) → isChunk i ≡ false → P i) → (i : Item) → P i
+item-by P k h end = h end refl
+item-by P k h (skipped p n) = h (skipped p n) refl
+item-by P k h (unfinished p n) = h (unfinished p n) refl
+item-by P k h (chunk p code size says) = k p code size says
+
+-- what is made of an item that is no chunk
+pub other-item : {A : Type 0} (other : A) (g : ℕ → ℕ → ℕ → Says → A) (i : Item) → isChunk i ≡ false → ofChunk other g i ≡ other
+other-item other g end e = refl
+other-item other g (skipped p n) e = refl
+other-item other g (unfinished p n) e = refl
+other-item other g (chunk p code size says) e = let z : _≡_ {A = ℕ} 0 1 = cc in absurd (omega arith)
+
+-- the other arm of a `let .. else` on a chunk says only the variant's number: the answer is a refusal, or an item that is no chunk
+pub no-chunk-told : (i : declared.Item) → OneOf (0 ∷ 1 ∷ 2 ∷ 3 ∷ 4 ∷ []) (tagOf the-type i) →
+    ((n : ℕ) × (itemSaid i ≡ refuses n)) ⊎ ((j : Item) × (itemSaid i ≡ gives j) × (isChunk j ≡ false))
+no-chunk-told variants.PastEnd e = inl (2, refl)
+no-chunk-told variants.BadState e = inl (3, refl)
+no-chunk-told variants.End e = inr (end, refl, refl)
+no-chunk-told (variants.Skipped p n) e = inr (skipped p n, refl, refl)
+no-chunk-told (variants.Unfinished p n) e = inr (unfinished p n, refl, refl)
+no-chunk-told (variants.Chunk p code size v) e = absurd (miss (0 ∷ 1 ∷ 2 ∷ 3 ∷ 4 ∷ []) 5 tt e)
+
+-- before the end a step gives an item that is not the end
+pub gives-on : (o : Order) (l : List ℕ) (c : Cursor) (a : Ahead) → (a ≡ End → ⊥) → (i : Item) × (stepBy o l c a .item ≡ gives i) × (isEnd i ≡ false)
+gives-on o l c End h = absurd (h refl)
+gives-on o l c Stretch h = (skipped (c .place) (gap o l), refl, refl)
+gives-on o l c Cut h = (unfinished (c .place) (length l), refl, refl)
+gives-on o l c (Chunk code size) h = (_, refl, refl)
 
 -- an item at another place is a chunk, or the end, where it was
 pub placed-chunk : {A : Type 0} (f : ℕ → ℕ) (other : A) (g : ℕ → ℕ → ℕ → Says → A) (i : Item) → ofChunk other g (placedBy f i) ≡ ofChunk other (λ p. g (f p)) i

@@ -23,10 +23,10 @@ use Rattle.body.specs.declared.data.Data.{Data}
 use Rattle.copy.specs.Samples.{placeOf, iOf, qOf, pairsOf, laid}
 use Rattle.copy.proofs.Laws.{length-pairs}
 use Rattle.effect.specs.Says.{Says, ready}
-use Rattle.reader.specs.Item.{Item, end, skipped, unfinished, chunk}
+use Rattle.reader.specs.Item.{Item, chunk}
 use Rattle.reader.specs.Step.{stepOf}
 use Rattle.reader.specs.declared.Cursor.{Cursor}
-use Rattle.reader.proofs.Laws.{chunk-size}
+use Rattle.reader.proofs.Laws.{chunk-size, item-by, other-item}
 use Rattle.state.specs.declared.State.{State}
 use Rattle.body.specs.Table.{shaped}
 use Rattle.samples.specs.Layout.{layout, numbers, valuesOf}
@@ -72,10 +72,13 @@ written-here float o code time xs d next c t f e =
 by-item : (float : Bool) (channel : ℕ) (shown : State) (a : Answer Item) (l : Layout) → layoutBy float channel shown a ≡ gives l →
     (p : ℕ) × (code : ℕ) × (size : ℕ) × (says : Says) × (a ≡ gives (chunk p code size says)) × (layoutIn float channel shown says code ≡ gives l)
 by-item float channel shown (refuses n) l e = let z : _≡_ {A = ℕ} 0 1 = cc in absurd (omega arith)
-by-item float channel shown (gives end) l e = let z : _≡_ {A = ℕ} 0 1 = cc in absurd (omega arith)
-by-item float channel shown (gives (skipped p n)) l e = let z : _≡_ {A = ℕ} 0 1 = cc in absurd (omega arith)
-by-item float channel shown (gives (unfinished p n)) l e = let z : _≡_ {A = ℕ} 0 1 = cc in absurd (omega arith)
-by-item float channel shown (gives (chunk p code size says)) l e = (p, code, size, says, refl, e)
+by-item float channel shown (gives i) l e =
+    item-by
+    (λ (j : Item). layoutBy float channel shown (gives j) ≡ gives l →
+    (p : ℕ) × (code : ℕ) × (size : ℕ) × (says : Says) × (gives j ≡ gives (chunk p code size says)) × (layoutIn float channel shown says code ≡ gives l))
+    (λ p code size says q. (p, code, size, says, refl, q))
+    (λ j n q. let z : _≡_ {A = ℕ} 0 1 = cc (other-item (refuses 35) (λ p code size says. layoutIn float channel shown says code) j n) in absurd (omega arith))
+    i e
 
 -- what the slice holds after a copying call, where each number of the chunk is known by its place
 abbrev pub leftWith : (float : Bool) → Order → List ℕ → Cursor → ℕ → (ℕ → Number float) → List (Number float) → List (Number float)

@@ -16,12 +16,12 @@ use Rattle.num.specs.declared.Order.the-variants.{Big, Little}
 use Rattle.num.proofs.Laws.{Bytes, bytes-length}
 use Rattle.lay.specs.Splice.{splice}
 use Rattle.lay.proofs.Splice.{splice-nothing, length-splice, splice-splice}
-use Rattle.frame.specs.declared.At.{At}
-use Rattle.frame.specs.declared.At.the-variants.{NoSync, Bad, Unfinished, Complete}
+use Rattle.frame.specs.declared.At.the-variants.{Complete}
 use Rattle.frame.specs.Place.{syncBytes, starts, goodSize, shows, gap, orderOf}
-use Rattle.frame.specs.Frames.{Frame, chunk, skipped, unfinished, chunkBytes, frameBytes, width, frameAt, first, framesBy, frames}
+use Rattle.frame.specs.Frames.{Frame, ofChunk, isChunk, chunk, chunkBytes, frameBytes, width, first, framesBy, frames}
 use Rattle.frame.proofs.Laws.{starts-self, order-big, order-little}
-use Rattle.frame.proofs.Frames.{complete, chunk-shows, frames-nil, moves}
+use Rattle.frame.proofs.Looks.{frame-by, other-made}
+use Rattle.frame.proofs.Frames.{chunk-shows, frames-nil, moves, first-sized}
 use Rattle.frame.proofs.Theorems.{bytes-whole}
 use Rattle.body.specs.declared.fault.Fault.the-variants as F
 use Rattle.writer.specs.Inner.Write.{headerBytes}
@@ -117,9 +117,11 @@ written-then-read o rs d h t f =
 chunks-back : (o : Order) (fs : List Frame) → Each IsChunk fs → writtenAll o (recordsOf fs) ≡ flatten (map (frameBytes o) fs)
 unfolding writtenAll recordsOf flatten
 chunks-back o [] h = refl
-chunks-back o (chunk code body ∷ fs) h = ap (λ (l : List ℕ). chunkBytes o code body ++ l) (chunks-back o fs (h .1))
-chunks-back o (skipped bytes ∷ fs) h = absurd (h .0)
-chunks-back o (unfinished bytes ∷ fs) h = absurd (h .0)
+chunks-back o (f ∷ fs) h =
+    frame-by (λ (g : Frame). isChunk g ≡ true → writtenAll o (recordsOf (g ∷ fs)) ≡ flatten (map (frameBytes o) (g ∷ fs)))
+    (λ code body i. ap (λ (l : List ℕ). chunkBytes o code body ++ l) (chunks-back o fs (h .1)))
+    (λ g n i. let z : _≡_ {A = ℕ} 0 1 = cc in absurd (omega arith))
+    f (h .0)
 
 -- The bytes of the records of a stream of complete chunks are the stream.
 pub write-back : (o : Order) (s : List ℕ) → Bytes s → Each IsChunk (frames o s) → writtenAll o (recordsOf (frames o s)) ≡ s
@@ -129,15 +131,13 @@ write-back o s g h = chunks-back o (frames o s) h ∙ bytes-whole o s g
 abbrev GoodSized : Record → Type 0
 GoodSized r = goodSize (length (r .body)) ≡ true
 
-sized-by : (o : Order) (l : List ℕ) (a : At) (fs : List Frame) → shows o l ≡ a → Each GoodSized (recordsOf fs) → Each GoodSized (recordsOf (frameAt a (gap o l) l ∷ fs))
+sized-by : (f : Frame) (fs : List Frame) → ofChunk (Unit {0}) (λ code body. goodSize (length body) ≡ true) f → Each GoodSized (recordsOf fs) → Each GoodSized (recordsOf (f ∷ fs))
 unfolding recordsOf
-sized-by o l (Complete t n) fs e h =
-    let k = complete o l t n e in
-    let m : length (take n (drop 12 l)) ≡ n = length-take-le n (drop 12 l) (simp length-drop (omega (arith, k .fits))) in
-    (rw m (k .good), h)
-sized-by o l Unfinished fs e h = h
-sized-by o l NoSync fs e h = h
-sized-by o l Bad fs e h = h
+sized-by f fs g h =
+    frame-by (λ (k : Frame). ofChunk (Unit {0}) (λ code body. goodSize (length body) ≡ true) k → Each GoodSized (recordsOf (k ∷ fs)))
+    (λ code body i. (i, h))
+    (λ k n i. rw (other-made (recordsOf fs) (λ code body. record { code = code; body = body } ∷ recordsOf fs) k n) h)
+    f g
 
 sized : (f : ℕ) (o : Order) (l : List ℕ) → Each GoodSized (recordsOf (framesBy f o l))
 unfolding framesBy recordsOf
@@ -145,7 +145,7 @@ sized zero o l = tt
 sized (suc f) o [] = tt
 sized (suc f) o (x ∷ l) =
     let r = drop (width (first o (x ∷ l))) (x ∷ l) in
-    sized-by o (x ∷ l) (shows o (x ∷ l)) (framesBy f o r) refl (sized f o r)
+    sized-by (first o (x ∷ l)) (framesBy f o r) (first-sized o (x ∷ l)) (sized f o r)
 
 all-taken : (o : Order) (rs : List Record) → Each GoodSized rs → Each (WellFormed o) rs → Each (Taken o) rs
 all-taken o [] g h = tt

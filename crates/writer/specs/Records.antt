@@ -1,11 +1,12 @@
 -- Records one after the other: their bytes, and the run of calls that writes them.
 use Prim.Native.Nat.{ℕ, _<_, _^_}
 use mathlib.Core.Path.{_≡_}
+use mathlib.Core.Bool.{true}
 use mathlib.Core.List.{List, [], _∷_, _++_}
 use lib.ListN.{length}
 use Rattle.num.specs.Answer.{Answer, gives, refuses}
 use Rattle.num.specs.declared.Order.{Order}
-use Rattle.frame.specs.Frames.{Frame, chunk, skipped, unfinished, chunkBytes}
+use Rattle.frame.specs.Frames.{Frame, chunk, ofChunk, isChunk, chunkBytes}
 use Rattle.body.specs.Kind.{kindOf}
 use Rattle.body.specs.Verdict.{verdict}
 use Rattle.writer.specs.Write.{mayWrite, writeOf, writtenOut}
@@ -22,9 +23,7 @@ chunkOf r = chunk (r .code) (r .body)
 -- the records of the chunks among some frames
 unfoldable pub recordsOf : List Frame → List Record
 recordsOf [] = []
-recordsOf (chunk code body ∷ rest) = record { code = code; body = body } ∷ recordsOf rest
-recordsOf (skipped bytes ∷ rest) = recordsOf rest
-recordsOf (unfinished bytes ∷ rest) = recordsOf rest
+recordsOf (f ∷ rest) = ofChunk (recordsOf rest) (λ code body. record { code = code; body = body } ∷ recordsOf rest) f
 
 -- ---- what may hold of each element of a list
 
@@ -34,9 +33,7 @@ Each P (a ∷ rest) = P a × Each P rest
 
 -- the frame is a complete chunk
 abbrev pub IsChunk : Frame → Type 0
-IsChunk (chunk code body) = Unit {0}
-IsChunk (skipped bytes) = ⊥
-IsChunk (unfinished bytes) = ⊥
+IsChunk f = isChunk f ≡ true
 
 -- the record may be written
 abbrev pub Taken : Order → Record → Type 0
