@@ -23,7 +23,7 @@ use Rattle.reader.specs.Step.{Step, stepBy, stepOf, after}
 use Rattle.reader.specs.declared.Cursor.{Cursor}
 use Rattle.reader.proofs.Laws.{step-ahead, step-end, of-chunk, gives-on}
 use Rattle.reader.specs.Item.{Item, itemSaid}
-use Rattle.reader.specs.Took.{Took}
+use Rattle.reader.specs.IsStep.{IsStep}
 use Rattle.reader.specs.declared.Stepped.{Stepped}
 use Rattle.reader.proofs.Theorems.{Fit, step-keeps-fit, told, ahead, one, goes}
 use Rattle.bench.specs.Plain.{sound, soundIn, soundCount}
@@ -74,7 +74,7 @@ pub record Turn (o : Order) (s : List ℕ) (c d : Cursor) (n : ℕ) : Type 0 whe
   pub sum : soundCount (ahead o s c) ≡ n + soundCount (ahead o s d)
   pub next : (m : ℕ) → after (suc m) o s c ≡ after m o s d
 
-pub turn : (o : Order) (s : List ℕ) (c : Cursor) {r : Stepped} {n : ℕ} → c .place < length s → Fit c → Took r (stepOf o s c) → n ≡ soundIn (itemSaid (r .item)) → Turn o s c (r .cursor) n
+pub turn : (o : Order) (s : List ℕ) (c : Cursor) {r : Stepped} {n : ℕ} → c .place < length s → Fit c → IsStep r (stepOf o s c) → n ≡ soundIn (itemSaid (r .item)) → Turn o s c (r .cursor) n
 turn o s c h f t e =
     let g = goes o s c f h in
     rw (e, t .item, t .cursor) (record { fit = step-keeps-fit o s c f; on = g .on; within = g .within; most = most (stepOf o s c .item); sum = ap soundCount (one o s c h f) ∙ count-one o s c h f (ahead o s (stepOf o s c .cursor)); next = after-next o s c })

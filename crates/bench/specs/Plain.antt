@@ -17,9 +17,9 @@ abbrev pub orderBy : ℕ → Order
 orderBy n = pick (eqb n 0) Big Little
 
 -- the number that is given, 0 on a refusal
-abbrev pub given : Answer ℕ → ℕ
-given (gives n) = n
-given (refuses k) = 0
+abbrev pub orZero : Answer ℕ → ℕ
+orZero (gives n) = n
+orZero (refuses k) = 0
 
 -- the number of a refusal, 0 where something is given
 abbrev pub refusal : {A : Type 0} → Answer A → ℕ

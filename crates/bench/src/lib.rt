@@ -12,8 +12,8 @@ ghost use Rattle.reader.specs.Items.{items};
 ghost use Rattle.reader.specs.Step.{newCursor, after};
 ghost use Rattle.samples.specs.Copy.{copiedSaid, layoutAt, countOf, samplesAt, filled};
 ghost use Rattle.writer.specs.Write.{writeOf, writtenOut, writtenSaid};
-ghost use Rattle.bench.specs.Plain.{orderBy, given, refusal, placeOr, sound, soundIn, soundCount};
-use body::plain::TextRead;
+ghost use Rattle.bench.specs.Plain.{orderBy, orZero, refusal, placeOr, sound, soundIn, soundCount};
+use body::TextRead;
 use effect::Verdict;
 use frame::Found;
 use num::Order;
@@ -121,14 +121,14 @@ pub extern "C" fn bench_search(order: u32, s: &[u8], from: usize) -> usize
 pub extern "C" fn bench_text(order: u32, body: &[u8]) -> u32
     ensures { λ r. ⌜ r ≡ refusal (text (orderBy order) (now (body .entry))) ⌝ }
 {
-    match body::plain::text(order_by(order), body) {
+    match body::text(order_by(order), body) {
         TextRead::Is(_) => 0,
-        TextRead::Malformed(f) => body::fault::number_of(f),
+        TextRead::Malformed(f) => body::number_of(f),
     }
 }
 
 fn next_of(written: Written) -> usize
-    ensures { λ r. ⌜ r ≡ given (writtenSaid written) ⌝ }
+    ensures { λ r. ⌜ r ≡ orZero (writtenSaid written) ⌝ }
 {
     match written {
         Written::Next(place) => place,
@@ -148,14 +148,14 @@ pub extern "C" fn bench_write(
     out: &mut [u8],
     place: usize,
 ) -> usize
-    ensures { λ r. ⌜ r ≡ given (writeOf (orderBy order) code (now (body .entry)) (length (now (out .entry))) place) ⌝ }
+    ensures { λ r. ⌜ r ≡ orZero (writeOf (orderBy order) code (now (body .entry)) (length (now (out .entry))) place) ⌝ }
     ensures { λ _. ⌜ now (out .exit) ≡ writtenOut (orderBy order) code (now (body .entry)) (now (out .entry)) place ⌝ }
 {
     next_of(writer::write(order_by(order), code, body, out, place))
 }
 
 fn count_of(copied: Copied) -> usize
-    ensures { λ r. ⌜ r ≡ given (copiedSaid copied) ⌝ }
+    ensures { λ r. ⌜ r ≡ orZero (copiedSaid copied) ⌝ }
 {
     match copied {
         Copied::Count(n) => n,
@@ -176,7 +176,7 @@ pub extern "C" fn bench_shorts(
     channel: usize,
     out: &mut [i16],
 ) -> usize
-    ensures { λ r. ⌜ r ≡ given (countOf false (orderBy order) (now (s .entry)) (after steps (orderBy order) (now (s .entry)) newCursor) channel (length (now (out .entry)))) ⌝ }
+    ensures { λ r. ⌜ r ≡ orZero (countOf false (orderBy order) (now (s .entry)) (after steps (orderBy order) (now (s .entry)) newCursor) channel (length (now (out .entry)))) ⌝ }
     ensures { λ _. ⌜ now (out .exit) ≡ filled (countOf false (orderBy order) (now (s .entry)) (after steps (orderBy order) (now (s .entry)) newCursor) channel (length (now (out .entry)))) (layoutAt false (orderBy order) (now (s .entry)) (after steps (orderBy order) (now (s .entry)) newCursor) channel) (shortAt (orderBy order) (samplesAt (orderBy order) (now (s .entry)) (after steps (orderBy order) (now (s .entry)) newCursor))) (now (out .entry)) ⌝ }
 {
     let by = order_by(order);
@@ -193,7 +193,7 @@ pub extern "C" fn bench_patterns(
     channel: usize,
     out: &mut [u32],
 ) -> usize
-    ensures { λ r. ⌜ r ≡ given (countOf true (orderBy order) (now (s .entry)) (after steps (orderBy order) (now (s .entry)) newCursor) channel (length (now (out .entry)))) ⌝ }
+    ensures { λ r. ⌜ r ≡ orZero (countOf true (orderBy order) (now (s .entry)) (after steps (orderBy order) (now (s .entry)) newCursor) channel (length (now (out .entry)))) ⌝ }
     ensures { λ _. ⌜ now (out .exit) ≡ filled (countOf true (orderBy order) (now (s .entry)) (after steps (orderBy order) (now (s .entry)) newCursor) channel (length (now (out .entry)))) (layoutAt true (orderBy order) (now (s .entry)) (after steps (orderBy order) (now (s .entry)) newCursor) channel) (patternAt (orderBy order) (samplesAt (orderBy order) (now (s .entry)) (after steps (orderBy order) (now (s .entry)) newCursor))) (now (out .entry)) ⌝ }
 {
     let by = order_by(order);

@@ -19,7 +19,7 @@ use Rattle.num.specs.declared.Order.{Order}
 use Rattle.num.proofs.Tests.{both-true}
 use Rattle.body.specs.Check.{int32, sized, allowed}
 use Rattle.body.specs.Levels.{isFinite, finite32, float32}
-use Rattle.body.specs.Groups.{counted, listed}
+use Rattle.body.specs.Groups.{withChannels, listed}
 use Rattle.body.proofs.Laws.{negative32}
 
 apart : {A B : Type 0} (a : A) (n : ℕ) → _≡_ {A = Answer A} (refuses n) (gives a) → B
@@ -71,7 +71,7 @@ unfolding listed
 listed-gives head value o body f a e =
     let z = int32 o body 0 in
     let g : ℕ → Answer _ = λ (n : ℕ). sized (head + value * n) body (f n) in
-    let q = short-by (ltb (length body) head) (counted z g) a e in
+    let q = short-by (ltb (length body) head) (withChannels z g) a e in
     let h = count-by z (both (leZ (pos 1) z) (leZ z (pos 16))) g a refl q in
     (natAbs z, h .0, h .1, whole-by (eqb (length body) (head + value * natAbs z)) (f (natAbs z)) a (h .2))
 

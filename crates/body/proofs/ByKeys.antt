@@ -8,9 +8,9 @@ use denote.Enum.Declared.{tagOf}
 use lib.ListN.{getD}
 use types.Run.{OneOf}
 use Rattle.body.specs.Kind.{known}
-use Rattle.body.specs.declared.kind.Kind.{Kind}
-use Rattle.body.specs.declared.kind.Kind.the-variants.{SSNC, SSNR, SFNC, SFNR, GSNC, GFNC, SIQP, SR, BW, GCBW, BWOF, CF, DBFS, DBTG, FFS, GIQP, GCF, GRG, SOFH, EOFH, IQDC, TEXT, Unknown}
-use Rattle.body.proofs.kind.Kind.{the-type}
+use Rattle.body.specs.declared.kinds.Kind.{Kind}
+use Rattle.body.specs.declared.kinds.Kind.the-variants.{SSNC, SSNR, SFNC, SFNR, GSNC, GFNC, SIQP, SR, BW, GCBW, BWOF, CF, DBFS, DBTG, FFS, GIQP, GCF, GRG, SOFH, EOFH, IQDC, TEXT, Unknown}
+use Rattle.body.proofs.kinds.Kind.{the-type}
 
 -- the kind with a number
 unfoldable pub kindAt : ℕ → Kind

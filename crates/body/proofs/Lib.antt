@@ -1,9 +1,9 @@
 pub mod Laws
 pub mod ByKeys
-pub mod Faults
+pub mod FaultNumbers
 pub mod Floats
 pub mod Nans
 pub mod Lists
-pub mod Groups
+pub mod GroupLaws
 pub mod Texts
 pub mod Allowed

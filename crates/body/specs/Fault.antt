@@ -1,10 +1,10 @@
 -- The numbers of what is wrong with a body.
 use Prim.Native.Nat.{ℕ}
 use Rattle.num.specs.Answer.{Answer, gives, refuses}
-use Rattle.body.specs.declared.fault.Checked.{Checked}
-use Rattle.body.specs.declared.fault.Checked.the-variants.{Good, Malformed}
-use Rattle.body.specs.declared.fault.Fault.{Fault}
-use Rattle.body.specs.declared.fault.Fault.the-variants.{Size, Value, Count, Padding, Text}
+use Rattle.body.specs.declared.faults.Checked.{Checked}
+use Rattle.body.specs.declared.faults.Checked.the-variants.{Good, Malformed}
+use Rattle.body.specs.declared.faults.Fault.{Fault}
+use Rattle.body.specs.declared.faults.Fault.the-variants.{Size, Value, Count, Padding, Text}
 
 abbrev pub faultNumber : Fault → ℕ
 faultNumber Size = 11

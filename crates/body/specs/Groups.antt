@@ -15,10 +15,10 @@ use Rattle.body.specs.Check.{int32, int64, sized, allowed, orElse}
 use Rattle.body.specs.Fault.{checkedSaid}
 use Rattle.body.specs.Levels.{float32, isFinite}
 use Rattle.body.specs.Lists.{sixteen}
-use Rattle.body.specs.declared.group.GroupPacking.{GroupPacking}
-use Rattle.body.specs.declared.group.GroupHertz.{GroupHertz}
-use Rattle.body.specs.declared.group.GroupGains.{GroupGains}
-use Rattle.body.specs.declared.fault.Checked.{Checked}
+use Rattle.body.specs.declared.groups.GroupPacking.{GroupPacking}
+use Rattle.body.specs.declared.groups.GroupHertz.{GroupHertz}
+use Rattle.body.specs.declared.groups.GroupGains.{GroupGains}
+use Rattle.body.specs.declared.faults.Checked.{Checked}
 
 -- absent lists: no channel, and 0 in every place
 abbrev pub noPacking : GroupPacking
@@ -31,23 +31,23 @@ abbrev pub noGains : GroupGains
 noGains = record { n = 0; values = replicate 16 (ofBits binary32 0) }
 
 -- what was given, or what stands for its absence
-abbrev pub given : {A : Type 0} → A → Answer A → A
-given none a = orElse none (λ x. x) a
+abbrev pub valueOr : {A : Type 0} → A → Answer A → A
+valueOr none a = orElse none (λ x. x) a
 
 -- a checker's answer that has its value beside it: it says what the rule says, and a malformed body leaves the value absent
 pub record Read {A : Type 0} (checked : Checked) (value none : A) (rule : Answer A) : Type 0 where
   pub said : checkedSaid checked value ≡ rule
-  pub holds : value ≡ given none rule
+  pub holds : value ≡ valueOr none rule
 
 -- number 13 unless a group has 1 to 16 channels
-abbrev pub counted : {A : Type 0} → ℤ → (ℕ → Answer A) → Answer A
-counted z f = pick (both (leZ (pos 1) z) (leZ z (pos 16))) (f (natAbs z)) (refuses 13)
+abbrev pub withChannels : {A : Type 0} → ℤ → (ℕ → Answer A) → Answer A
+withChannels z f = pick (both (leZ (pos 1) z) (leZ z (pos 16))) (f (natAbs z)) (refuses 13)
 
 -- a count n first, then whatever else stands before the values, then n values: the size up to the values, the size of a value
 unfoldable pub listed : {A : Type 0} → ℕ → ℕ → Order → List ℕ → (ℕ → Answer A) → Answer A
 listed head value o body f =
     pick (ltb (length body) head) (refuses 11)
-    (counted (int32 o body 0) (λ n. sized (head + value * n) body (f n)))
+    (withChannels (int32 o body 0) (λ n. sized (head + value * n) body (f n)))
 
 -- GIQP: n, packing 0 or 1, increment 1 or n, n offsets of at least 0
 unfoldable pub offsetAt : Order → List ℕ → ℕ → ℤ

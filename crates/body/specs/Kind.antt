@@ -3,8 +3,8 @@ use Prim.Native.Nat.{ℕ}
 use mathlib.Core.List.{List, [], _∷_}
 use lib.Dec.{eqb}
 use Rattle.num.specs.Choice.{pick}
-use Rattle.body.specs.declared.kind.Kind.{Kind}
-use Rattle.body.specs.declared.kind.Kind.the-variants.{SSNC, SSNR, SFNC, SFNR, GSNC, GFNC, SIQP, SR, BW, GCBW, BWOF, CF, DBFS, DBTG, FFS, GIQP, GCF, GRG, SOFH, EOFH, IQDC, TEXT, Unknown}
+use Rattle.body.specs.declared.kinds.Kind.{Kind}
+use Rattle.body.specs.declared.kinds.Kind.the-variants.{SSNC, SSNR, SFNC, SFNR, GSNC, GFNC, SIQP, SR, BW, GCBW, BWOF, CF, DBFS, DBTG, FFS, GIQP, GCF, GRG, SOFH, EOFH, IQDC, TEXT, Unknown}
 
 -- the type of a kind: its four letters as a number, the first the most significant; an unknown kind has none
 abbrev pub codeOf : Kind → ℕ

@@ -8,10 +8,10 @@ use Rattle.num.specs.Number.{unsignedAt}
 use Rattle.num.specs.declared.Order.{Order}
 use Rattle.body.specs.Check.{sized, allowed}
 use Rattle.body.specs.Fault.{faultNumber}
-use Rattle.body.specs.declared.level.Level.{Level}
-use Rattle.body.specs.declared.level.Level.the-variants.{FullScale, TotalGain, FloatFullScale}
-use Rattle.body.specs.declared.level.LevelRead.{LevelRead}
-use Rattle.body.specs.declared.level.LevelRead.the-variants.{Is, Malformed}
+use Rattle.body.specs.declared.levels.Level.{Level}
+use Rattle.body.specs.declared.levels.Level.the-variants.{FullScale, TotalGain, FloatFullScale}
+use Rattle.body.specs.declared.levels.LevelRead.{LevelRead}
+use Rattle.body.specs.declared.levels.LevelRead.the-variants.{Is, Malformed}
 
 -- the float32 at a place of a body
 abbrev pub float32 : Order → List ℕ → ℕ → Float

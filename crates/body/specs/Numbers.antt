@@ -8,20 +8,20 @@ use Rattle.num.specs.Choice.{both}
 use Rattle.num.specs.declared.Order.{Order}
 use Rattle.body.specs.Check.{int32, int64, sized, allowed}
 use Rattle.body.specs.Fault.{faultNumber}
-use Rattle.body.specs.declared.number.Number.{Number}
-use Rattle.body.specs.declared.number.Number.the-variants.{Is, Malformed}
-use Rattle.body.specs.declared.number.Band.{Band}
-use Rattle.body.specs.declared.number.BandRead.{BandRead}
-use Rattle.body.specs.declared.number.BandRead.the-variants.{Spans, Faulty}
+use Rattle.body.specs.declared.numbers.NumberRead.{NumberRead}
+use Rattle.body.specs.declared.numbers.NumberRead.the-variants.{Is, Malformed}
+use Rattle.body.specs.declared.numbers.Band.{Band}
+use Rattle.body.specs.declared.numbers.BandRead.{BandRead}
+use Rattle.body.specs.declared.numbers.BandRead.the-variants as band
 
 -- what each case of the answers says
-abbrev pub numberSaid : Number → Answer ℤ
+abbrev pub numberSaid : NumberRead → Answer ℤ
 numberSaid (Is v) = gives v
 numberSaid (Malformed f) = refuses (faultNumber f)
 
 abbrev pub bandSaid : BandRead → Answer Band
-bandSaid (Spans b) = gives b
-bandSaid (Faulty f) = refuses (faultNumber f)
+bandSaid (band.Is b) = gives b
+bandSaid (band.Malformed f) = refuses (faultNumber f)
 
 -- SIQP: an int32, 1 for I before Q, 0 for Q before I
 abbrev pub siqp : Order → List ℕ → Answer ℤ

@@ -11,18 +11,18 @@ use Rattle.body.specs.Levels.{dbfs, dbtg, ffs}
 use Rattle.body.specs.Groups.{noPacking, noHertz, noGains, giqp, gcf, grg}
 use Rattle.body.specs.Plain.{empty, text}
 use Rattle.body.specs.Values.{noNumber, noBand, noLevel, number, centred, banded, levelled}
-use Rattle.body.specs.declared.data.Shape.{Shape}
-use Rattle.body.specs.declared.data.Shape.the-variants.{ShortPairs, ShortReals, ShortGroup, FloatPairs, FloatReals, FloatGroup}
-use Rattle.body.specs.declared.data.Shaped.{Shaped}
-use Rattle.body.specs.declared.data.Shaped.the-variants.{Samples, NoSamples}
-use Rattle.body.specs.declared.group.GroupPacking.{GroupPacking}
-use Rattle.body.specs.declared.group.GroupHertz.{GroupHertz}
-use Rattle.body.specs.declared.group.GroupGains.{GroupGains}
-use Rattle.body.specs.declared.kind.Kind.{Kind}
-use Rattle.body.specs.declared.kind.Kind.the-variants.{SSNC, SSNR, SFNC, SFNR, GSNC, GFNC, SIQP, SR, BW, GCBW, BWOF, CF, DBFS, DBTG, FFS, GIQP, GCF, GRG, SOFH, EOFH, IQDC, TEXT, Unknown}
-use Rattle.body.specs.declared.value.Held.{Held}
-use Rattle.body.specs.declared.value.BandHeld.{BandHeld}
-use Rattle.body.specs.declared.value.LevelHeld.{LevelHeld}
+use Rattle.body.specs.declared.sampled.Shape.{Shape}
+use Rattle.body.specs.declared.sampled.Shape.the-variants.{ShortPairs, ShortReals, ShortGroup, FloatPairs, FloatReals, FloatGroup}
+use Rattle.body.specs.declared.sampled.Shaped.{Shaped}
+use Rattle.body.specs.declared.sampled.Shaped.the-variants.{Samples, NoSamples}
+use Rattle.body.specs.declared.groups.GroupPacking.{GroupPacking}
+use Rattle.body.specs.declared.groups.GroupHertz.{GroupHertz}
+use Rattle.body.specs.declared.groups.GroupGains.{GroupGains}
+use Rattle.body.specs.declared.kinds.Kind.{Kind}
+use Rattle.body.specs.declared.kinds.Kind.the-variants.{SSNC, SSNR, SFNC, SFNR, GSNC, GFNC, SIQP, SR, BW, GCBW, BWOF, CF, DBFS, DBTG, FFS, GIQP, GCF, GRG, SOFH, EOFH, IQDC, TEXT, Unknown}
+use Rattle.body.specs.declared.values.Held.{Held}
+use Rattle.body.specs.declared.values.BandHeld.{BandHeld}
+use Rattle.body.specs.declared.values.LevelHeld.{LevelHeld}
 
 -- a slot for each value of the state
 pub data Slot : Type 0 where

@@ -2,12 +2,12 @@
 use mathlib.Core.Bool.{true, false}
 use lib.Ieee.{Float, binary32, ofBits}
 use lib.IntN.{ℤ, pos}
-use Rattle.body.specs.declared.level.Level.{Level}
-use Rattle.body.specs.declared.level.Level.the-variants.{FullScale, TotalGain, FloatFullScale}
-use Rattle.body.specs.declared.number.Band.{Band}
-use Rattle.body.specs.declared.value.Held.{Held}
-use Rattle.body.specs.declared.value.BandHeld.{BandHeld}
-use Rattle.body.specs.declared.value.LevelHeld.{LevelHeld}
+use Rattle.body.specs.declared.levels.Level.{Level}
+use Rattle.body.specs.declared.levels.Level.the-variants.{FullScale, TotalGain, FloatFullScale}
+use Rattle.body.specs.declared.numbers.Band.{Band}
+use Rattle.body.specs.declared.values.Held.{Held}
+use Rattle.body.specs.declared.values.BandHeld.{BandHeld}
+use Rattle.body.specs.declared.values.LevelHeld.{LevelHeld}
 
 -- an absent value is 0; for a float, the value whose pattern is 0
 abbrev pub noNumber : Held

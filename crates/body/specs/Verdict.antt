@@ -5,7 +5,7 @@ use Rattle.num.specs.Answer.{Answer, gives, refuses}
 use Rattle.num.specs.declared.Order.{Order}
 use Rattle.body.specs.Samples.{dataOf}
 use Rattle.body.specs.Table.{Row, sets, marks, leaves, samples, unknown, row}
-use Rattle.body.specs.declared.kind.Kind.{Kind}
+use Rattle.body.specs.declared.kinds.Kind.{Kind}
 
 -- an answer with its value left out
 abbrev pub seen : {A : Type 0} → Answer A → Answer (Unit {0})

@@ -3,8 +3,8 @@ ghost use mathlib.Core.Path.{_≡_};
 ghost use Prim.Native.Nat.{_≤_};
 ghost use Rattle.body.specs.Fault.{checkedSaid};
 ghost use Rattle.body.specs.Plain.{empty, textSaid, zeros, texts, text};
-use crate::fault::Checked;
-use crate::fault::Fault;
+use crate::faults::Checked;
+use crate::faults::Fault;
 use num::Order;
 
 // The length of a text, which starts at place 4 of the body, or what is wrong.

@@ -6,26 +6,26 @@ ghost use Rattle.body.specs.Numbers.{numberSaid, bandSaid};
 ghost use Rattle.body.specs.Plain.{textSaid};
 ghost use Rattle.body.specs.Samples.{dataSaid};
 ghost use Rattle.body.specs.Verdict.{seen, verdict};
-use crate::data;
-use crate::data::DataRead;
-use crate::fault::Checked;
-use crate::group;
-use crate::kind::Kind;
-use crate::level;
-use crate::level::LevelRead;
-use crate::number;
-use crate::number::BandRead;
-use crate::number::Number;
+use crate::faults::Checked;
+use crate::groups;
+use crate::kinds::Kind;
+use crate::levels;
+use crate::levels::LevelRead;
+use crate::numbers;
+use crate::numbers::BandRead;
+use crate::numbers::NumberRead;
 use crate::plain;
 use crate::plain::TextRead;
+use crate::sampled;
+use crate::sampled::DataRead;
 use num::Order;
 
-fn of_number(read: Number) -> Checked
+fn of_number(read: NumberRead) -> Checked
     ensures { λ r. ⌜ checkedSaid r tt ≡ seen (numberSaid read) ⌝ }
 {
     match read {
-        Number::Is(_) => Checked::Good,
-        Number::Malformed(f) => Checked::Malformed(f),
+        NumberRead::Is(_) => Checked::Good,
+        NumberRead::Malformed(f) => Checked::Malformed(f),
     }
 }
 
@@ -33,8 +33,8 @@ fn of_band(read: BandRead) -> Checked
     ensures { λ r. ⌜ checkedSaid r tt ≡ seen (bandSaid read) ⌝ }
 {
     match read {
-        BandRead::Spans(_) => Checked::Good,
-        BandRead::Faulty(f) => Checked::Malformed(f),
+        BandRead::Is(_) => Checked::Good,
+        BandRead::Malformed(f) => Checked::Malformed(f),
     }
 }
 
@@ -70,25 +70,25 @@ pub fn check(order: Order, kind: Kind, body: &[u8]) -> Checked
     ensures { λ r. ⌜ checkedSaid r tt ≡ verdict order kind (now (body .entry)) ⌝ }
 {
     match kind {
-        Kind::SSNC => of_data(data::ssnc(order, body)),
-        Kind::SSNR => of_data(data::ssnr(order, body)),
-        Kind::SFNC => of_data(data::sfnc(order, body)),
-        Kind::SFNR => of_data(data::sfnr(order, body)),
-        Kind::GSNC => of_data(data::gsnc(order, body)),
-        Kind::GFNC => of_data(data::gfnc(order, body)),
-        Kind::SIQP => of_number(number::siqp(order, body)),
-        Kind::SR => of_number(number::sr(order, body)),
-        Kind::BW => of_number(number::bw(order, body)),
-        Kind::GCBW => of_number(number::bw(order, body)),
-        Kind::BWOF => of_band(number::bwof(order, body)),
-        Kind::CF => of_number(number::cf(order, body)),
-        Kind::DBFS => of_level(level::dbfs(order, body)),
-        Kind::DBTG => of_level(level::dbtg(order, body)),
-        Kind::FFS => of_level(level::ffs(order, body)),
-        Kind::GIQP => group::giqp(order, body).checked,
-        Kind::GCF => group::gcf(order, body).checked,
-        Kind::GRG => group::grg(order, body).checked,
-        Kind::SOFH => of_number(number::sofh(order, body)),
+        Kind::SSNC => of_data(sampled::ssnc(order, body)),
+        Kind::SSNR => of_data(sampled::ssnr(order, body)),
+        Kind::SFNC => of_data(sampled::sfnc(order, body)),
+        Kind::SFNR => of_data(sampled::sfnr(order, body)),
+        Kind::GSNC => of_data(sampled::gsnc(order, body)),
+        Kind::GFNC => of_data(sampled::gfnc(order, body)),
+        Kind::SIQP => of_number(numbers::siqp(order, body)),
+        Kind::SR => of_number(numbers::sr(order, body)),
+        Kind::BW => of_number(numbers::bw(order, body)),
+        Kind::GCBW => of_number(numbers::bw(order, body)),
+        Kind::BWOF => of_band(numbers::bwof(order, body)),
+        Kind::CF => of_number(numbers::cf(order, body)),
+        Kind::DBFS => of_level(levels::dbfs(order, body)),
+        Kind::DBTG => of_level(levels::dbtg(order, body)),
+        Kind::FFS => of_level(levels::ffs(order, body)),
+        Kind::GIQP => groups::giqp(order, body).checked,
+        Kind::GCF => groups::gcf(order, body).checked,
+        Kind::GRG => groups::grg(order, body).checked,
+        Kind::SOFH => of_number(numbers::sofh(order, body)),
         Kind::EOFH => plain::empty(body),
         Kind::IQDC => plain::empty(body),
         Kind::TEXT => of_text(plain::text(order, body)),

@@ -29,16 +29,16 @@ use Rattle.body.specs.Levels.{isFinite}
 use Rattle.body.specs.Table.{Slot, packing, rate, band, groupBand, centre, fullScale, totalGain, floatScale, group, frequencies, gains, Value, none, slotNumber, isSlot, Row, sets, marks, leaves, samples, unknown, row, setsBy, setBy}
 use Rattle.body.specs.Values.{noNumber, noLevel, number}
 use Rattle.body.specs.Verdict.{seen, verdictBy, verdict}
-use Rattle.body.specs.declared.group.GroupPacking.{GroupPacking}
-use Rattle.body.specs.declared.group.GroupHertz.{GroupHertz}
-use Rattle.body.specs.declared.group.GroupGains.{GroupGains}
-use Rattle.body.specs.declared.kind.Kind.{Kind}
-use Rattle.body.specs.declared.kind.Kind.the-variants.{SSNC, SSNR, SFNC, SFNR, GSNC, GFNC, SIQP, SR, BW, GCBW, BWOF, CF, DBFS, DBTG, FFS, GIQP, GCF, GRG, SOFH, EOFH, IQDC, TEXT, Unknown}
-use Rattle.body.specs.declared.value.Held.{Held}
-use Rattle.body.specs.declared.value.LevelHeld.{LevelHeld}
+use Rattle.body.specs.declared.groups.GroupPacking.{GroupPacking}
+use Rattle.body.specs.declared.groups.GroupHertz.{GroupHertz}
+use Rattle.body.specs.declared.groups.GroupGains.{GroupGains}
+use Rattle.body.specs.declared.kinds.Kind.{Kind}
+use Rattle.body.specs.declared.kinds.Kind.the-variants.{SSNC, SSNR, SFNC, SFNR, GSNC, GFNC, SIQP, SR, BW, GCBW, BWOF, CF, DBFS, DBTG, FFS, GIQP, GCF, GRG, SOFH, EOFH, IQDC, TEXT, Unknown}
+use Rattle.body.specs.declared.values.Held.{Held}
+use Rattle.body.specs.declared.values.LevelHeld.{LevelHeld}
 use Rattle.body.proofs.Allowed.{listed-gives}
-use Rattle.state.specs.Good.{isZero, isPlusZero, zeroOrOne, anyNumber, offset, nothing, goodFrom, goodHead, goodList, goodIn}
-use Rattle.state.specs.State.{valueIn, putIn, emptied}
+use Rattle.state.specs.Good.{isZero, isPlusZero, zeroOrOne, anyNumber, isOffset, isNoOffset, goodFrom, goodHead, goodList, goodIn}
+use Rattle.state.specs.State.{valueIn, setIn, emptied}
 use Rattle.state.specs.declared.State.{State}
 use Rattle.state.specs.declared.Values.{Values}
 use Rattle.state.proofs.Tests.{plus-zero-pattern}
@@ -92,7 +92,7 @@ module _ (o : Order) where
 
 -- ---- what is good and present was left by a body
 
-put-is : (x : Slot) (a : Value x) (v : Values) → valueIn x (putIn x a v) ≡ a
+put-is : (x : Slot) (a : Value x) (v : Values) → valueIn x (setIn x a v) ≡ a
 put-is packing a v = refl
 put-is rate a v = refl
 put-is band a v = refl
@@ -249,8 +249,8 @@ presents Unknown = tt
 abbrev Ok : (x : Slot) → Value x → Type 0
 Ok x v = (isPresent x v ≡ true) × (goodIn x v ≡ true)
 
-put-ok : (y x : Slot) (a : Value y) (v : Values) → isSlot y x ≡ true → Ok y a → Ok x (valueIn x (putIn y a v))
-put-ok y x a v e h = subst (λ (z : Slot). Ok z (valueIn z (putIn y a v))) (one-slot y x e) (rw (put-is y a v) h)
+put-ok : (y x : Slot) (a : Value y) (v : Values) → isSlot y x ≡ true → Ok y a → Ok x (valueIn x (setIn y a v))
+put-ok y x a v e h = subst (λ (z : Slot). Ok z (valueIn z (setIn y a v))) (one-slot y x e) (rw (put-is y a v) h)
 
 read-ok : {A : Type 0} (y : Slot) (hold : A → Value y) (r : Answer A) → seen r ≡ gives tt →
     ((a : A) → r ≡ gives a → Ok y (hold a)) → Ok y (orElse (none y) hold r)
@@ -332,9 +332,9 @@ absent-is-none totalGain v f p g = no-level v f p (rw p at g)
 absent-is-none floatScale v f p g = no-level v f p (rw p at g)
 absent-is-none group v f p g =
     let z = no-channel (v .n) p in
-    let a = both-true (goodHead v) (goodList offset nothing (v .n) (v .offsets)) g in
+    let a = both-true (goodHead v) (goodList isOffset isNoOffset (v .n) (v .offsets)) g in
     let h = both-true (eqb (v .increment) 0) (not (v .iq)) (rw (eq-eqb (v .n) 0 z) at (a .0)) in
-    let l = nothing-in offset nothing 0 (v .n) (v .offsets) z f (λ c k. eqb-true _ 0 k) (a .1) in
+    let l = nothing-in isOffset isNoOffset 0 (v .n) (v .offsets) z f (λ c k. eqb-true _ 0 k) (a .1) in
     λ i. record { n = z i; iq = not-true (v .iq) (h .1) i; increment = eqb-true (v .increment) 0 (h .0) i; offsets = l i }
 absent-is-none frequencies v f p g =
     let z = no-channel (v .n) p in

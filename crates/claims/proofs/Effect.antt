@@ -1,7 +1,7 @@
 -- What is said of a chunk, the state that it shows and the state that it leaves are one answer, and so is its data where it is ready.
 use mathlib.Core.Path.{sym, _∙_}
 use Rattle.effect.proofs.ask.ready_data.Reads as ready-data
-use Rattle.effect.proofs.take.take.Reads as take
+use Rattle.effect.proofs.effects.take.Reads as take
 use Rattle.claims.proofs.Promise.{OneAnswer}
 use Rattle.claims.proofs.Told.{asked-told, verdict-told}
 

@@ -21,7 +21,7 @@ use Rattle.body.specs.Kind.{known, kindIn, kindOf}
 use Rattle.body.specs.Verdict.{verdict}
 use Rattle.copy.specs.Samples.{pairsOf, realsOf}
 use Rattle.state.specs.Good.{goodFrom, goodValues, goodLists}
-use Rattle.state.specs.State.{putIn, built, emptied, withValues}
+use Rattle.state.specs.State.{setIn, built, emptied, withValues}
 use Rattle.effect.specs.Effect.{effect}
 use Rattle.effect.specs.Says.{Says, verdictSaid}
 use Rattle.effect.specs.declared.Verdict.{Verdict}
@@ -126,7 +126,7 @@ abbrev pub pair : List ℕ
 pair = whole 0x53 0x53 0x4E 0x43 (0 ∷ 0 ∷ 0 ∷ 0 ∷ 0 ∷ 0 ∷ 0 ∷ 5 ∷ 0 ∷ 1 ∷ 0xFF ∷ 0xFF ∷ [])
 
 abbrev pub knowing : Cursor
-knowing = cursorAt 0 true (withValues (emptied false) (putIn Slot.rate (record { present = true; value = pos 1 }) (putIn Slot.packing (record { present = true; value = pos 1 }) (built none))))
+knowing = cursorAt 0 true (withValues (emptied false) (setIn Slot.rate (record { present = true; value = pos 1 }) (setIn Slot.packing (record { present = true; value = pos 1 }) (built none))))
 
 -- a copy of channel 0 into a slice of two numbers may give this answer
 abbrev pub Copies : Lfts 2 → Copied → Type 0
@@ -146,7 +146,7 @@ abbrev pub float : List ℕ
 float = whole 0x53 0x46 0x4E 0x52 (0 ∷ 0 ∷ 0 ∷ 0 ∷ 0 ∷ 0 ∷ 0 ∷ 5 ∷ 0x7F ∷ 0xC0 ∷ 0 ∷ 1 ∷ [])
 
 abbrev pub scaled : Cursor
-scaled = cursorAt 0 true (withValues (emptied false) (putIn Slot.floatScale (record { present = true; value = ofBits binary32 0x3F800000 }) (putIn Slot.rate (record { present = true; value = pos 1 }) (built none))))
+scaled = cursorAt 0 true (withValues (emptied false) (setIn Slot.floatScale (record { present = true; value = ofBits binary32 0x3F800000 }) (setIn Slot.rate (record { present = true; value = pos 1 }) (built none))))
 
 pub no-lost-pattern : (κs : Lfts 2) (r : Copied) (h : Allows patterns.Post κs (Big, (lent float, (scaled, (0, (lent (0 ∷ []), tt))))) r) →
     (r ≡ Count 1) × (h .0 .1 .1 .1 .1 .0 .now ≡ 0x7FC00001 ∷ [])

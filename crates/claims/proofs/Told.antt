@@ -10,19 +10,19 @@ use Rattle.body.specs.Levels.{levelSaid}
 use Rattle.body.specs.Numbers.{numberSaid, bandSaid}
 use Rattle.body.specs.Plain.{textSaid}
 use Rattle.body.specs.Samples.{dataSaid}
-use Rattle.body.specs.declared.data.Data.{Data}
-use Rattle.body.specs.declared.data.DataRead.{DataRead}
-use Rattle.body.specs.declared.data.DataRead.the-variants as D
-use Rattle.body.specs.declared.fault.Checked.{Checked}
-use Rattle.body.specs.declared.fault.Checked.the-variants as C
-use Rattle.body.specs.declared.fault.Fault.{Fault}
-use Rattle.body.specs.declared.fault.Fault.the-variants.{Size, Value, Count, Padding, Text}
-use Rattle.body.specs.declared.level.LevelRead.{LevelRead}
-use Rattle.body.specs.declared.level.LevelRead.the-variants as L
-use Rattle.body.specs.declared.number.BandRead.{BandRead}
-use Rattle.body.specs.declared.number.BandRead.the-variants as B
-use Rattle.body.specs.declared.number.Number.{Number}
-use Rattle.body.specs.declared.number.Number.the-variants as N
+use Rattle.body.specs.declared.sampled.Data.{Data}
+use Rattle.body.specs.declared.sampled.DataRead.{DataRead}
+use Rattle.body.specs.declared.sampled.DataRead.the-variants as D
+use Rattle.body.specs.declared.faults.Checked.{Checked}
+use Rattle.body.specs.declared.faults.Checked.the-variants as C
+use Rattle.body.specs.declared.faults.Fault.{Fault}
+use Rattle.body.specs.declared.faults.Fault.the-variants.{Size, Value, Count, Padding, Text}
+use Rattle.body.specs.declared.levels.LevelRead.{LevelRead}
+use Rattle.body.specs.declared.levels.LevelRead.the-variants as L
+use Rattle.body.specs.declared.numbers.BandRead.{BandRead}
+use Rattle.body.specs.declared.numbers.BandRead.the-variants as B
+use Rattle.body.specs.declared.numbers.NumberRead.{NumberRead}
+use Rattle.body.specs.declared.numbers.NumberRead.the-variants as N
 use Rattle.body.specs.declared.plain.TextRead.{TextRead}
 use Rattle.body.specs.declared.plain.TextRead.the-variants as T
 use Rattle.effect.specs.Ready.{askedSaid}
@@ -59,19 +59,19 @@ abbrev caseOf : {A E : Type 0} → (A → E) → (Fault → E) → Answer A → 
 caseOf is wrong (gives a) = is a
 caseOf is wrong (refuses n) = wrong (faultOf n)
 
-number-back : (x : Number) → caseOf N.Is N.Malformed (numberSaid x) ≡ x
+number-back : (x : NumberRead) → caseOf N.Is N.Malformed (numberSaid x) ≡ x
 number-back (N.Is v) = refl
 number-back (N.Malformed f) = ap N.Malformed (fault-back f)
 
-pub number-told : (x y : Number) → numberSaid x ≡ numberSaid y → x ≡ y
+pub number-told : (x y : NumberRead) → numberSaid x ≡ numberSaid y → x ≡ y
 number-told = told numberSaid (caseOf N.Is N.Malformed) number-back
 
-band-back : (x : BandRead) → caseOf B.Spans B.Faulty (bandSaid x) ≡ x
-band-back (B.Spans b) = refl
-band-back (B.Faulty f) = ap B.Faulty (fault-back f)
+band-back : (x : BandRead) → caseOf B.Is B.Malformed (bandSaid x) ≡ x
+band-back (B.Is b) = refl
+band-back (B.Malformed f) = ap B.Malformed (fault-back f)
 
 pub band-told : (x y : BandRead) → bandSaid x ≡ bandSaid y → x ≡ y
-band-told = told bandSaid (caseOf B.Spans B.Faulty) band-back
+band-told = told bandSaid (caseOf B.Is B.Malformed) band-back
 
 level-back : (x : LevelRead) → caseOf L.Is L.Malformed (levelSaid x) ≡ x
 level-back (L.Is l) = refl

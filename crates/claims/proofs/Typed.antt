@@ -7,7 +7,7 @@ use Rattle.typed.proofs.empty.iqdc.Reads as iqdc
 use Rattle.typed.proofs.group.gcf.Reads as gcf
 use Rattle.typed.proofs.group.giqp.Reads as giqp
 use Rattle.typed.proofs.group.grg.Reads as grg
-use Rattle.typed.proofs.level.level.Reads as level
+use Rattle.typed.proofs.levels.level.Reads as level
 use Rattle.typed.proofs.number.bw.Reads as bw
 use Rattle.typed.proofs.number.cf.Reads as cf
 use Rattle.typed.proofs.number.gcbw.Reads as gcbw

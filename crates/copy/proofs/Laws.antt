@@ -11,17 +11,17 @@ use lib.Dec.{eqb}
 use lib.ListN.{length, getD, take, drop, set, length-append, length-drop}
 use lib.Seq.{drop-cons, drop-drop, set-at, append-snoc, take-at, drop-at, getD-set-same, getD-set-other}
 use Rattle.num.specs.Choice.{pick}
-use Rattle.copy.specs.Samples.{placeOf, iOf, qOf, pairsOf, realsOf, laid}
+use Rattle.copy.specs.Samples.{placeOf, iOf, qOf, pairsOf, realsOf, frontFilled}
 
 module _ {A : Type 0} where
   -- one value more is laid
-  pub laid-next : (xs : List A) (x : A) (out : List A) (n : ℕ) → length xs ≡ n → n < length out → set (laid xs out) n x ≡ laid (xs ++ (x ∷ [])) out
-  laid-next xs x out n e h =
+  pub filled-next : (xs : List A) (x : A) (out : List A) (n : ℕ) → length xs ≡ n → n < length out → set (frontFilled xs out) n x ≡ frontFilled (xs ++ (x ∷ [])) out
+  filled-next xs x out n e h =
       let l : length (xs ++ (x ∷ [])) ≡ suc n = omega (arith, length-append xs (x ∷ [])) in
       rw (e, l, drop-cons out n x, set-at xs (getD out n x) (drop (suc n) out) x n e, append-snoc)
 
-  pub laid-length : (xs out : List A) → length xs ≤ length out → length (laid xs out) ≡ length out
-  laid-length xs out h = simp (length-append, length-drop) (omega arith)
+  pub filled-length : (xs out : List A) → length xs ≤ length out → length (frontFilled xs out) ≡ length out
+  filled-length xs out h = simp (length-append, length-drop) (omega arith)
 
 module _ {A : Type 0} (value : ℕ → A) (iq : Bool) (first step : ℕ) where
   pub length-pairs : (n : ℕ) → length (pairsOf value iq first step n) ≡ 2 * n
@@ -31,8 +31,8 @@ module _ {A : Type 0} (value : ℕ → A) (iq : Bool) (first step : ℕ) where
 
   -- one pair more: its I, then its Q
   pub pairs-next : (out : List A) (j : ℕ) → 2 * j + 1 < length out →
-      set (set (laid (pairsOf value iq first step j) out) (2 * j) (value (iOf iq (placeOf first step j)))) (2 * j + 1) (value (qOf iq (placeOf first step j)))
-      ≡ laid (pairsOf value iq first step (j + 1)) out
+      set (set (frontFilled (pairsOf value iq first step j) out) (2 * j) (value (iOf iq (placeOf first step j)))) (2 * j + 1) (value (qOf iq (placeOf first step j)))
+      ≡ frontFilled (pairsOf value iq first step (j + 1)) out
   unfolding pairsOf
   pairs-next out j h =
       let xs = pairsOf value iq first step j in
@@ -40,13 +40,13 @@ module _ {A : Type 0} (value : ℕ → A) (iq : Bool) (first step : ℕ) where
       let b = value (qOf iq (placeOf first step j)) in
       let e = length-pairs j in
       let l : length (xs ++ (a ∷ [])) ≡ 2 * j + 1 = omega (arith, length-append xs (a ∷ [])) in
-      rw (laid-next xs a out (2 * j) e (omega arith), laid-next (xs ++ (a ∷ [])) b out (2 * j + 1) l h, append-assoc xs (a ∷ []) (b ∷ []), add-one j)
+      rw (filled-next xs a out (2 * j) e (omega arith), filled-next (xs ++ (a ∷ [])) b out (2 * j + 1) l h, append-assoc xs (a ∷ []) (b ∷ []), add-one j)
 
   -- the first places of the slice hold the pairs, and the others what they held
-  pub pairs-front : (out : List A) (n : ℕ) → take (2 * n) (laid (pairsOf value iq first step n) out) ≡ pairsOf value iq first step n
+  pub pairs-front : (out : List A) (n : ℕ) → take (2 * n) (frontFilled (pairsOf value iq first step n) out) ≡ pairsOf value iq first step n
   pairs-front out n = take-at (pairsOf value iq first step n) _ (2 * n) (length-pairs n)
 
-  pub pairs-rest : (out : List A) (n : ℕ) → drop (2 * n) (laid (pairsOf value iq first step n) out) ≡ drop (2 * n) out
+  pub pairs-rest : (out : List A) (n : ℕ) → drop (2 * n) (frontFilled (pairsOf value iq first step n) out) ≡ drop (2 * n) out
   pairs-rest out n = rw (drop-at (pairsOf value iq first step n) _ (2 * n) (length-pairs n), length-pairs n)
 
 module _ {A : Type 0} where
@@ -75,8 +75,8 @@ module _ {A : Type 0} (value : ℕ → A) (iq : Bool) (first step : ℕ) where
 
   -- pairs laid behind those before them
   pub pairs-behind : (out : List A) (j n : ℕ) →
-      let front = laid (pairsOf value iq first step j) out in
-      take (2 * j) front ++ laid (pairsOf value iq (placeOf first step j) step n) (drop (2 * j) front) ≡ laid (pairsOf value iq first step (j + n)) out
+      let front = frontFilled (pairsOf value iq first step j) out in
+      take (2 * j) front ++ frontFilled (pairsOf value iq (placeOf first step j) step n) (drop (2 * j) front) ≡ frontFilled (pairsOf value iq first step (j + n)) out
   pairs-behind out j n =
       let l : length (pairsOf value iq (placeOf first step j) step n) ≡ 2 * n = length-pairs value iq (placeOf first step j) step n in
       let m : length (pairsOf value iq first step (j + n)) ≡ 2 * j + 2 * n = omega (arith, length-pairs value iq first step (j + n)) in
@@ -89,16 +89,16 @@ module _ {A : Type 0} (value : ℕ → A) where
   length-reals (suc n) = rw (length-append, length-reals n) (omega arith)
 
   -- one number more
-  pub reals-next : (out : List A) (j : ℕ) → j < length out → set (laid (realsOf value j) out) j (value j) ≡ laid (realsOf value (j + 1)) out
+  pub reals-next : (out : List A) (j : ℕ) → j < length out → set (frontFilled (realsOf value j) out) j (value j) ≡ frontFilled (realsOf value (j + 1)) out
   unfolding realsOf
-  reals-next out j h = rw (add-one j) (laid-next (realsOf value j) (value j) out j (length-reals j) h)
+  reals-next out j h = rw (add-one j) (filled-next (realsOf value j) (value j) out j (length-reals j) h)
 
   -- one value more behind a front of n values
-  pub reals-behind : (front back : List A) (n i : ℕ) → length front ≡ n → i < length back → set (front ++ laid (realsOf value i) back) (n + i) (value i) ≡ front ++ laid (realsOf value (i + 1)) back
+  pub reals-behind : (front back : List A) (n i : ℕ) → length front ≡ n → i < length back → set (front ++ frontFilled (realsOf value i) back) (n + i) (value i) ≡ front ++ frontFilled (realsOf value (i + 1)) back
   reals-behind front back n i e h = rw (← e, set-behind front, reals-next back i h)
 
-  pub reals-length : (out : List A) (n : ℕ) → n ≤ length out → length (laid (realsOf value n) out) ≡ length out
-  reals-length out n h = laid-length (realsOf value n) out (omega (arith, length-reals n))
+  pub reals-length : (out : List A) (n : ℕ) → n ≤ length out → length (frontFilled (realsOf value n) out) ≡ length out
+  reals-length out n h = filled-length (realsOf value n) out (omega (arith, length-reals n))
 
 -- pairs that stand one after the other, I first, are the numbers as they stand
 module _ {A : Type 0} (value : ℕ → A) where

@@ -5,7 +5,7 @@ use mathlib.Core.Bool.{Bool}
 use mathlib.Core.List.{List, _++_}
 use native.Mathlib.Omega.{arith}
 use lib.ListN.{length, take, drop, set, length-set}
-use Rattle.copy.specs.Samples.{placeOf, iOf, qOf, pairsOf, laid}
+use Rattle.copy.specs.Samples.{placeOf, iOf, qOf, pairsOf, frontFilled}
 use Rattle.copy.proofs.Laws.{pairs-next, pairs-behind}
 
 module _ {A : Type 0} (value : ℕ → A) (iq : Bool) (first step pairs : ℕ) where
@@ -13,7 +13,7 @@ module _ {A : Type 0} (value : ℕ → A) (iq : Bool) (first step pairs : ℕ) w
   abbrev pub Grown : List A → ℕ → List A → ℕ → Type 0
   Grown out₀ j₀ out j =
       (j ≤ pairs) × (length out ≡ length out₀)
-      × ((d : List A) → 2 * pairs ≤ length d → out₀ ≡ laid (pairsOf value iq first step j₀) d → out ≡ laid (pairsOf value iq first step j) d)
+      × ((d : List A) → 2 * pairs ≤ length d → out₀ ≡ frontFilled (pairsOf value iq first step j₀) d → out ≡ frontFilled (pairsOf value iq first step j) d)
 
   -- a loop begins
   pub grown-none : (out : List A) (j : ℕ) → j ≤ pairs → Grown out j out j
@@ -35,11 +35,11 @@ module _ {A : Type 0} (value : ℕ → A) (iq : Bool) (first step pairs : ℕ) w
 
     -- n pairs more, from the place p on
     pub grown-block : (p n : ℕ) (next : List A) → p ≡ placeOf first step j → j + n ≤ pairs → length next ≡ length out →
-        next ≡ take (2 * j) out ++ laid (pairsOf value iq p step n) (drop (2 * j) out) → Grown out₀ j₀ next (j + n)
+        next ≡ take (2 * j) out ++ frontFilled (pairsOf value iq p step n) (drop (2 * j) out) → Grown out₀ j₀ next (j + n)
     grown-block p n next e l m put = (l, m ∙ h .1, λ d room q. rw (put, h .2 d room q, e) (pairs-behind value iq first step d j n))
 
   -- all of them are laid
-  pub grown-all : (out₀ out : List A) (j : ℕ) → Grown out₀ 0 out j → pairs ≤ j → 2 * pairs ≤ length out₀ → out ≡ laid (pairsOf value iq first step pairs) out₀
+  pub grown-all : (out₀ out : List A) (j : ℕ) → Grown out₀ 0 out j → pairs ≤ j → 2 * pairs ≤ length out₀ → out ≡ frontFilled (pairsOf value iq first step pairs) out₀
   unfolding pairsOf
   grown-all out₀ out j h e r =
       let n : j ≡ pairs = omega arith in

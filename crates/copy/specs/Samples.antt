@@ -46,8 +46,8 @@ realsOf value zero = []
 realsOf value (suc n) = realsOf value n ++ (value n ∷ [])
 
 -- what a slice holds once values are copied to its front: the rest is as it was
-abbrev pub laid : {A : Type 0} → List A → List A → List A
-laid values out = values ++ drop (length values) out
+abbrev pub frontFilled : {A : Type 0} → List A → List A → List A
+frontFilled values out = values ++ drop (length values) out
 
 -- the pair at a place ends within so many bytes
 abbrev pub inside : ℕ → ℕ → ℕ → Bool

@@ -8,7 +8,7 @@ ghost use mir.Syntax.{w16};
 ghost use mir.Val.{toZ};
 ghost use Rattle.num.specs.Choice.{pick};
 ghost use Rattle.num.specs.Number.{unsigned};
-ghost use Rattle.copy.specs.Samples.{bytesAt, shortAt, patternAt, iOf, qOf, pairsOf, realsOf, laid, pairsFit, realsFit};
+ghost use Rattle.copy.specs.Samples.{bytesAt, shortAt, patternAt, iOf, qOf, pairsOf, realsOf, frontFilled, pairsFit, realsFit};
 use num::Order;
 
 // Number k of the sample bytes.
@@ -121,7 +121,7 @@ fn short_run(
     out: &mut [i16],
 )
     requires { ⌜ (pairsFit 2 (length (now src)) first 1 pairs (length (now out)) ≡ true) × (few ≤ pairs) ⌝ }
-    ensures { λ _. ⌜ now (out .exit) ≡ laid (pairsOf (shortAt order (now (src .entry))) iq first 1 pairs) (now (out .entry)) ⌝ }
+    ensures { λ _. ⌜ now (out .exit) ≡ frontFilled (pairsOf (shortAt order (now (src .entry))) iq first 1 pairs) (now (out .entry)) ⌝ }
 {
     let mut j = 0;
     while j < few {
@@ -148,7 +148,7 @@ fn is_big(order: Order) -> bool
 // overlap. They are read as words of the little order, and the bytes of each half are then turned, by one shuffle for a vector.
 fn short_block(src: &[u8], place: usize, j: usize, out: &mut [i16])
     requires { ⌜ ((place + 16) * 4 ≤ length (now src)) × (2 * (j + 16) ≤ length (now out)) ⌝ }
-    ensures { λ _. ⌜ now (out .exit) ≡ take (2 * j) (now (out .entry)) ++ laid (pairsOf (shortAt Order.Big (now (src .entry))) true place 1 16) (drop (2 * j) (now (out .entry))) ⌝ }
+    ensures { λ _. ⌜ now (out .exit) ≡ take (2 * j) (now (out .entry)) ++ frontFilled (pairsOf (shortAt Order.Big (now (src .entry))) true place 1 16) (drop (2 * j) (now (out .entry))) ⌝ }
 {
     let mut halves = [0u16; 32];
     let mut k = 0;
@@ -169,7 +169,7 @@ fn short_block(src: &[u8], place: usize, j: usize, out: &mut [i16])
 // Pairs of the big order with I first that stand one after the other, the first few by themselves and then sixteen at a time.
 fn short_blocks(src: &[u8], first: usize, few: usize, pairs: usize, out: &mut [i16])
     requires { ⌜ (pairsFit 2 (length (now src)) first 1 pairs (length (now out)) ≡ true) × (few ≤ pairs) ⌝ }
-    ensures { λ _. ⌜ now (out .exit) ≡ laid (pairsOf (shortAt Order.Big (now (src .entry))) true first 1 pairs) (now (out .entry)) ⌝ }
+    ensures { λ _. ⌜ now (out .exit) ≡ frontFilled (pairsOf (shortAt Order.Big (now (src .entry))) true first 1 pairs) (now (out .entry)) ⌝ }
 {
     let mut j = 0;
     while j < few {
@@ -197,7 +197,7 @@ fn short_line(
     out: &mut [i16],
 )
     requires { ⌜ (pairsFit 2 (length (now src)) first 1 pairs (length (now out)) ≡ true) × (few ≤ pairs) ⌝ }
-    ensures { λ _. ⌜ now (out .exit) ≡ laid (pairsOf (shortAt order (now (src .entry))) iq first 1 pairs) (now (out .entry)) ⌝ }
+    ensures { λ _. ⌜ now (out .exit) ≡ frontFilled (pairsOf (shortAt order (now (src .entry))) iq first 1 pairs) (now (out .entry)) ⌝ }
 {
     if is_big(order) & iq {
         short_blocks(src, first, few, pairs, out);
@@ -231,7 +231,7 @@ fn long_at(src: &[u8], place: usize) -> u64
 // Such pairs that stand one after the other.
 fn turned_run(src: &[u8], first: usize, pairs: usize, out: &mut [u32])
     requires { ⌜ pairsFit 4 (length (now src)) first 1 pairs (length (now out)) ≡ true ⌝ }
-    ensures { λ _. ⌜ now (out .exit) ≡ laid (pairsOf (patternAt Order.Big (now (src .entry))) false first 1 pairs) (now (out .entry)) ⌝ }
+    ensures { λ _. ⌜ now (out .exit) ≡ frontFilled (pairsOf (patternAt Order.Big (now (src .entry))) false first 1 pairs) (now (out .entry)) ⌝ }
 {
     let mut j = 0;
     while j < pairs {
@@ -245,7 +245,7 @@ fn turned_run(src: &[u8], first: usize, pairs: usize, out: &mut [u32])
 
 fn pattern_run(order: Order, iq: bool, src: &[u8], first: usize, pairs: usize, out: &mut [u32])
     requires { ⌜ pairsFit 4 (length (now src)) first 1 pairs (length (now out)) ≡ true ⌝ }
-    ensures { λ _. ⌜ now (out .exit) ≡ laid (pairsOf (patternAt order (now (src .entry))) iq first 1 pairs) (now (out .entry)) ⌝ }
+    ensures { λ _. ⌜ now (out .exit) ≡ frontFilled (pairsOf (patternAt order (now (src .entry))) iq first 1 pairs) (now (out .entry)) ⌝ }
 {
     let mut j = 0;
     while j < pairs {
@@ -257,7 +257,7 @@ fn pattern_run(order: Order, iq: bool, src: &[u8], first: usize, pairs: usize, o
 // Patterns that stand one after the other, the first few by themselves.
 fn patterns(order: Order, src: &[u8], first: usize, few: usize, count: usize, out: &mut [u32])
     requires { ⌜ ((first + count) * 4 ≤ length (now src)) × (count ≤ length (now out)) × (few ≤ count) ⌝ }
-    ensures { λ _. ⌜ now (out .exit) ≡ laid (realsOf (λ k. patternAt order (now (src .entry)) (first + k)) count) (now (out .entry)) ⌝ }
+    ensures { λ _. ⌜ now (out .exit) ≡ frontFilled (realsOf (λ k. patternAt order (now (src .entry)) (first + k)) count) (now (out .entry)) ⌝ }
 {
     let mut j = 0;
     while j < few {
@@ -281,7 +281,7 @@ fn short_steps(
     out: &mut [i16],
 )
     requires { ⌜ pairsFit 2 (length (now src)) first step pairs (length (now out)) ≡ true ⌝ }
-    ensures { λ _. ⌜ now (out .exit) ≡ laid (pairsOf (shortAt order (now (src .entry))) iq first step pairs) (now (out .entry)) ⌝ }
+    ensures { λ _. ⌜ now (out .exit) ≡ frontFilled (pairsOf (shortAt order (now (src .entry))) iq first step pairs) (now (out .entry)) ⌝ }
 {
     let mut j = 0;
     while j < pairs {
@@ -300,7 +300,7 @@ fn pattern_steps(
     out: &mut [u32],
 )
     requires { ⌜ pairsFit 4 (length (now src)) first step pairs (length (now out)) ≡ true ⌝ }
-    ensures { λ _. ⌜ now (out .exit) ≡ laid (pairsOf (patternAt order (now (src .entry))) iq first step pairs) (now (out .entry)) ⌝ }
+    ensures { λ _. ⌜ now (out .exit) ≡ frontFilled (pairsOf (patternAt order (now (src .entry))) iq first step pairs) (now (out .entry)) ⌝ }
 {
     let mut j = 0;
     while j < pairs {
@@ -352,7 +352,7 @@ pub fn short_pairs(
     out: &mut [i16],
 ) -> bool
     ensures { λ r. ⌜ r ≡ pairsFit 2 (length (now (src .entry))) first step pairs (length (now (out .entry))) ⌝ }
-    ensures { λ r. ⌜ now (out .exit) ≡ pick r (laid (pairsOf (shortAt order (now (src .entry))) iq first step pairs) (now (out .entry))) (now (out .entry)) ⌝ }
+    ensures { λ r. ⌜ now (out .exit) ≡ pick r (frontFilled (pairsOf (shortAt order (now (src .entry))) iq first step pairs) (now (out .entry))) (now (out .entry)) ⌝ }
 {
     if !pairs_fit(2, src.len(), first, step, pairs, out.len()) {
         return false;
@@ -378,7 +378,7 @@ pub fn pattern_pairs(
     out: &mut [u32],
 ) -> bool
     ensures { λ r. ⌜ r ≡ pairsFit 4 (length (now (src .entry))) first step pairs (length (now (out .entry))) ⌝ }
-    ensures { λ r. ⌜ now (out .exit) ≡ pick r (laid (pairsOf (patternAt order (now (src .entry))) iq first step pairs) (now (out .entry))) (now (out .entry)) ⌝ }
+    ensures { λ r. ⌜ now (out .exit) ≡ pick r (frontFilled (pairsOf (patternAt order (now (src .entry))) iq first step pairs) (now (out .entry))) (now (out .entry)) ⌝ }
 {
     if !pairs_fit(4, src.len(), first, step, pairs, out.len()) {
         return false;
@@ -406,7 +406,7 @@ pub fn pattern_pairs(
 // The first numbers, one for each sample.
 pub fn short_reals(order: Order, at: usize, src: &[u8], count: usize, out: &mut [i16]) -> bool
     ensures { λ r. ⌜ r ≡ realsFit 2 (length (now (src .entry))) count (length (now (out .entry))) ⌝ }
-    ensures { λ r. ⌜ now (out .exit) ≡ pick r (laid (realsOf (shortAt order (now (src .entry))) count) (now (out .entry))) (now (out .entry)) ⌝ }
+    ensures { λ r. ⌜ now (out .exit) ≡ pick r (frontFilled (realsOf (shortAt order (now (src .entry))) count) (now (out .entry))) (now (out .entry)) ⌝ }
 {
     if src.len() / 2 < count {
         return false;
@@ -424,7 +424,7 @@ pub fn short_reals(order: Order, at: usize, src: &[u8], count: usize, out: &mut 
 
 pub fn pattern_reals(order: Order, at: usize, src: &[u8], count: usize, out: &mut [u32]) -> bool
     ensures { λ r. ⌜ r ≡ realsFit 4 (length (now (src .entry))) count (length (now (out .entry))) ⌝ }
-    ensures { λ r. ⌜ now (out .exit) ≡ pick r (laid (realsOf (patternAt order (now (src .entry))) count) (now (out .entry))) (now (out .entry)) ⌝ }
+    ensures { λ r. ⌜ now (out .exit) ≡ pick r (frontFilled (realsOf (patternAt order (now (src .entry))) count) (now (out .entry))) (now (out .entry)) ⌝ }
 {
     if src.len() / 4 < count {
         return false;

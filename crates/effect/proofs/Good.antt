@@ -21,18 +21,18 @@ use Rattle.body.specs.Lists.{sixteen}
 use Rattle.body.specs.Table.{Slot, Value, none, Row, sets, marks, leaves, samples, unknown, row}
 use Rattle.body.specs.Values.{amount}
 use Rattle.body.specs.Groups.{isNumber, headOk, offsetAt, offsetsOk, hertzAt, gainAt, gainsOk, packed, tuned, amplified, giqp, gcf, grg}
-use Rattle.body.specs.declared.kind.Kind.{Kind}
-use Rattle.body.specs.declared.kind.Kind.the-variants.{SSNC, SSNR, SFNC, SFNR, GSNC, GFNC, SIQP, SR, BW, GCBW, BWOF, CF, DBFS, DBTG, FFS, GIQP, GCF, GRG, SOFH, EOFH, IQDC, TEXT, Unknown}
-use Rattle.body.specs.declared.level.Level.{Level}
-use Rattle.body.specs.declared.level.Level.the-variants.{FullScale, TotalGain, FloatFullScale}
-use Rattle.body.specs.declared.number.Band.{Band}
-use Rattle.body.specs.declared.group.GroupPacking.{GroupPacking}
-use Rattle.body.specs.declared.group.GroupHertz.{GroupHertz}
-use Rattle.body.specs.declared.group.GroupGains.{GroupGains}
+use Rattle.body.specs.declared.kinds.Kind.{Kind}
+use Rattle.body.specs.declared.kinds.Kind.the-variants.{SSNC, SSNR, SFNC, SFNR, GSNC, GFNC, SIQP, SR, BW, GCBW, BWOF, CF, DBFS, DBTG, FFS, GIQP, GCF, GRG, SOFH, EOFH, IQDC, TEXT, Unknown}
+use Rattle.body.specs.declared.levels.Level.{Level}
+use Rattle.body.specs.declared.levels.Level.the-variants.{FullScale, TotalGain, FloatFullScale}
+use Rattle.body.specs.declared.numbers.Band.{Band}
+use Rattle.body.specs.declared.groups.GroupPacking.{GroupPacking}
+use Rattle.body.specs.declared.groups.GroupHertz.{GroupHertz}
+use Rattle.body.specs.declared.groups.GroupGains.{GroupGains}
 use Rattle.body.proofs.Allowed.{sized-gives, finite-gives, then-gives, listed-gives, small32}
-use Rattle.state.specs.Good.{zeroOrOne, anyNumber, scale, offset, nothing, isZero, isPlusZero, goodList, goodGroup, goodFrequencies, goodGains, goodIn, goodState}
+use Rattle.state.specs.Good.{zeroOrOne, anyNumber, isScale, isOffset, isNoOffset, isZero, isPlusZero, goodList, goodGroup, goodFrequencies, goodGains, goodIn, goodState}
 use Rattle.state.specs.declared.State.{State}
-use Rattle.state.proofs.Laws.{put-good, none-good, upto-good}
+use Rattle.state.proofs.Laws.{set-good, none-good, upto-good}
 use Rattle.effect.specs.Effect.{effectBy, effect}
 
 -- ---- what each kind gives
@@ -65,19 +65,19 @@ allowed-by : {A : Type 0} (ok : Bool) (v w : A) → allowed ok v ≡ gives w →
 allowed-by true v w e = (refl, cc)
 allowed-by false v w e = let z : _≡_ {A = ℕ} 0 1 = cc in absurd (omega arith)
 
-ffs-good : (o : Order) (b : List ℕ) (l : Level) → ffs o b ≡ gives l → scale (amount l) ≡ true
+ffs-good : (o : Order) (b : List ℕ) (l : Level) → ffs o b ≡ gives l → isScale (amount l) ≡ true
 ffs-good o b l e =
     let f : Float → Answer Level = λ (x : Float). allowed (lt (ofBits binary32 0) x) (FloatFullScale x) in
     let h = then-gives (finite32 o b) f l e in
     let x = h .0 in
     let k = allowed-by (lt (ofBits binary32 0) x) (FloatFullScale x) l (h .2) in
-    sym (ap (λ (y : Level). scale (amount y)) (k .1)) ∙ rw (finite-gives o b x (h .1), k .0)
+    sym (ap (λ (y : Level). isScale (amount y)) (k .1)) ∙ rw (finite-gives o b x (h .1), k .0)
 
 either-by : (z : ℤ) (n : ℕ) → either (isNumber 1 z) (isNumber n z) ≡ true → either (eqb (natAbs z) 1) (eqb (natAbs z) n) ≡ true
 either-by (pos m) n h = h
 either-by (negsuc m) n h = let z : _≡_ {A = ℕ} 0 1 = cc in absurd (omega arith)
 
-offset-small : (o : Order) (b : List ℕ) (c : ℕ) → leZ (pos 0) (offsetAt o b c) ≡ true → offset (natAbs (offsetAt o b c)) ≡ true
+offset-small : (o : Order) (b : List ℕ) (c : ℕ) → leZ (pos 0) (offsetAt o b c) ≡ true → isOffset (natAbs (offsetAt o b c)) ≡ true
 unfolding offsetAt
 offset-small o b c h = lt-ltb (natAbs (offsetAt o b c)) (2 ^ 31) (small32 (unsignedAt 4 o b (12 + 4 * c)) h)
 
@@ -95,10 +95,10 @@ giqp-good o b g e =
     let k = allowed-by (both (headOk n (int32 o b 4) z) (offsetsOk o b n)) v g (h .3) in
     let t = both-true (headOk n (int32 o b 4) z) (offsetsOk o b n) (k .0) in
     let d = both-true (either (isNumber 0 (int32 o b 4)) (isNumber 1 (int32 o b 4))) (either (isNumber 1 z) (isNumber n z)) (t .0) in
-    let used : (c : ℕ) → c < n → offset (natAbs (offsetAt o b c)) ≡ true =
+    let used : (c : ℕ) → c < n → isOffset (natAbs (offsetAt o b c)) ≡ true =
     λ c q. offset-small o b c (each-at (λ (i : ℕ). leZ (pos 0) (offsetAt o b i)) n c (t .1) q) in
-    let l : goodList offset nothing n (sixteen (λ c. natAbs (offsetAt o b c)) 0 n) ≡ true =
-    upto-good offset nothing (λ (c : ℕ). natAbs (offsetAt o b c)) 0 n used refl (h .2) in
+    let l : goodList isOffset isNoOffset n (sixteen (λ c. natAbs (offsetAt o b c)) 0 n) ≡ true =
+    upto-good isOffset isNoOffset (λ (c : ℕ). natAbs (offsetAt o b c)) 0 n used refl (h .2) in
     sym (ap goodGroup (k .1)) ∙ rw (ne-eqb n 0 (λ q. omega (arith, h .1)), either-by z n (d .1)) l
 
 gcf-good : (o : Order) (b : List ℕ) (g : GroupHertz) → gcf o b ≡ gives g → goodFrequencies g ≡ true
@@ -162,7 +162,7 @@ or-else-good x hold (refuses n) h = none-good x
 
 module _ (o : Order) (b : List ℕ) (s : State) (g : goodState s ≡ true) where
   row-good : (r : Row) → Allows r → goodState (effectBy r o b s .after) ≡ true
-  row-good (sets x hold read) h = put-good x (orElse (none x) hold (read o b)) s g (or-else-good x hold (read o b) (h o b))
+  row-good (sets x hold read) h = set-good x (orElse (none x) hold (read o b)) s g (or-else-good x hold (read o b) (h o b))
   row-good (marks read) h = g
   row-good (leaves read) h = g
   row-good (samples shape) h = g

@@ -9,36 +9,36 @@ use Rattle.num.specs.Answer.{Answer, gives, refuses}
 use Rattle.num.specs.declared.Order.{Order}
 use Rattle.body.specs.Fault.{checkedSaid}
 use Rattle.body.specs.Groups.{Read}
-use Rattle.body.specs.declared.fault.Checked.{Checked}
-use Rattle.body.specs.declared.fault.Checked.the-variants.{Good, Malformed}
+use Rattle.body.specs.declared.faults.Checked.{Checked}
+use Rattle.body.specs.declared.faults.Checked.the-variants.{Good, Malformed}
 use Rattle.body.specs.Check.{orElse}
 use Rattle.body.specs.Table.{Slot, Value, none, Row, sets, marks, leaves, samples, unknown, row, shapedBy, shaped}
-use Rattle.body.specs.declared.data.Shaped.the-variants.{NoSamples}
-use Rattle.body.specs.declared.kind.Kind.{Kind}
-use Rattle.state.specs.State.{putIn, withValues}
+use Rattle.body.specs.declared.sampled.Shaped.the-variants.{NoSamples}
+use Rattle.body.specs.declared.kinds.Kind.{Kind}
+use Rattle.state.specs.State.{setIn, withValues}
 use Rattle.state.specs.declared.State.{State}
 use Rattle.effect.specs.Says.{Says, verdictSaid, judged}
 use Rattle.effect.specs.Ready.{noState, inGroup, readyData}
-use Rattle.effect.specs.Effect.{met, timed, effectBy, effect}
-use Rattle.effect.specs.Took.{Took}
+use Rattle.effect.specs.Effect.{met, dataEffect, effectBy, effect}
+use Rattle.effect.specs.IsEffect.{IsEffect}
 use Rattle.effect.specs.declared.Taken.{Taken}
 use Rattle.effect.specs.declared.ready.Judged.{Judged}
 use Rattle.effect.specs.declared.Verdict.{Verdict}
 
 -- an answer that shows nothing is the effect of a chunk that is no data
 pub met-took : {A : Type 0} {r : Taken} {v : Verdict} {next : State} (a : Answer A) (n : State) →
-    (r .verdict ≡ v) × (r .shown ≡ noState) × (r .state ≡ next) → verdictSaid v ≡ judged a → next ≡ n → Took r (met a n)
+    (r .verdict ≡ v) × (r .shown ≡ noState) × (r .state ≡ next) → verdictSaid v ≡ judged a → next ≡ n → IsEffect r (met a n)
 met-took a n h e q = record { says = ap verdictSaid (h .0) ∙ e; shown = h .1; after = h .2 ∙ q }
 
 -- one that puts a value into its slot is the effect of a chunk that sets it
 pub set-took : {A : Type 0} {r : Taken} {v : Verdict} (x : Slot) (hold : A → Value x) (a : Answer A) (s : State) {value : Value x} →
-    (r .verdict ≡ v) × (r .shown ≡ noState) × (r .state ≡ withValues s (putIn x value (s .values))) → verdictSaid v ≡ judged a → value ≡ orElse (none x) hold a →
-    Took r (met a (withValues s (putIn x (orElse (none x) hold a) (s .values))))
-set-took x hold a s h e q = met-took a _ h e (ap (λ y. withValues s (putIn x y (s .values))) q)
+    (r .verdict ≡ v) × (r .shown ≡ noState) × (r .state ≡ withValues s (setIn x value (s .values))) → verdictSaid v ≡ judged a → value ≡ orElse (none x) hold a →
+    IsEffect r (met a (withValues s (setIn x (orElse (none x) hold a) (s .values))))
+set-took x hold a s h e q = met-took a _ h e (ap (λ y. withValues s (setIn x y (s .values))) q)
 
 -- an answer to what is said of a data chunk is its effect
 pub data-took : {r : Taken} {says : Says} {j k : Judged} (s : State) (g : Bool) → j ≡ k →
-    (verdictSaid (k .verdict) ≡ says) × (k .group ≡ g) → Took r (timed (verdictSaid (j .verdict)) (pick (j .group) (inGroup (s .values)) (s .values)) s) → Took r (timed says (pick g (inGroup (s .values)) (s .values)) s)
+    (verdictSaid (k .verdict) ≡ says) × (k .group ≡ g) → IsEffect r (dataEffect (verdictSaid (j .verdict)) (pick (j .group) (inGroup (s .values)) (s .values)) s) → IsEffect r (dataEffect says (pick g (inGroup (s .values)) (s .values)) s)
 data-took s g e p h = rw (← p .0, ← p .1, ← e) h
 
 judged-checked : {A : Type 0} (k : Checked) (v : A) → judged (checkedSaid k (tt {0})) ≡ judged (checkedSaid k v)

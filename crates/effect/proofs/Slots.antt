@@ -7,22 +7,22 @@ use native.Mathlib.Omega.{arith}
 use Rattle.num.specs.declared.Order.{Order}
 use Rattle.body.specs.Check.{orElse}
 use Rattle.body.specs.Table.{Slot, none, Row, sets, marks, leaves, samples, unknown, row, setsBy, setBy}
-use Rattle.body.specs.declared.kind.Kind.{Kind}
+use Rattle.body.specs.declared.kinds.Kind.{Kind}
 use Rattle.state.specs.State.{valueIn}
 use Rattle.state.specs.declared.State.{State}
-use Rattle.state.proofs.Slots.{put-other, put-own}
+use Rattle.state.proofs.Slots.{set-other, set-own}
 use Rattle.effect.specs.Effect.{effectBy, effect}
 
 module _ (o : Order) (b : List ℕ) where
   row-keeps : (r : Row) (s : State) (x : Slot) → setsBy r x ≡ false → valueIn x (effectBy r o b s .after .values) ≡ valueIn x (s .values)
-  row-keeps (sets y hold read) s x e = put-other y (orElse (none y) hold (read o b)) (s .values) x e
+  row-keeps (sets y hold read) s x e = set-other y (orElse (none y) hold (read o b)) (s .values) x e
   row-keeps (marks read) s x e = refl
   row-keeps (leaves read) s x e = refl
   row-keeps (samples shape) s x e = refl
   row-keeps unknown s x e = refl
 
   row-owns : (r : Row) (s t : State) (x : Slot) → setsBy r x ≡ true → valueIn x (effectBy r o b s .after .values) ≡ valueIn x (effectBy r o b t .after .values)
-  row-owns (sets y hold read) s t x e = put-own y (orElse (none y) hold (read o b)) (s .values) (t .values) x e
+  row-owns (sets y hold read) s t x e = set-own y (orElse (none y) hold (read o b)) (s .values) (t .values) x e
   row-owns (marks read) s t x e = let z : _≡_ {A = ℕ} 0 1 = cc in absurd (omega arith)
   row-owns (leaves read) s t x e = let z : _≡_ {A = ℕ} 0 1 = cc in absurd (omega arith)
   row-owns (samples shape) s t x e = let z : _≡_ {A = ℕ} 0 1 = cc in absurd (omega arith)

@@ -13,12 +13,12 @@ use Rattle.num.specs.declared.Order.{Order}
 use Rattle.body.specs.Samples.{dataOf}
 use Rattle.body.specs.Table.{Row, sets, marks, leaves, samples, unknown, row}
 use Rattle.body.specs.Verdict.{seen, verdictBy, verdict}
-use Rattle.body.specs.declared.data.Data.{Data}
-use Rattle.body.specs.declared.data.Shape.{Shape}
-use Rattle.body.specs.declared.data.Shape.the-variants.{ShortPairs, ShortReals, ShortGroup, FloatPairs, FloatReals, FloatGroup}
-use Rattle.body.specs.declared.group.GroupPacking.{GroupPacking}
-use Rattle.body.specs.declared.kind.Kind.{Kind}
-use Rattle.body.proofs.Faults.{verdict-number}
+use Rattle.body.specs.declared.sampled.Data.{Data}
+use Rattle.body.specs.declared.sampled.Shape.{Shape}
+use Rattle.body.specs.declared.sampled.Shape.the-variants.{ShortPairs, ShortReals, ShortGroup, FloatPairs, FloatReals, FloatGroup}
+use Rattle.body.specs.declared.groups.GroupPacking.{GroupPacking}
+use Rattle.body.specs.declared.kinds.Kind.{Kind}
+use Rattle.body.proofs.FaultNumbers.{verdict-number}
 use Rattle.cover.specs.Cover.{groupCovers}
 use Rattle.state.specs.declared.Values.{Values}
 use Rattle.state.specs.declared.State.{State}

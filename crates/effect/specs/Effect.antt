@@ -8,10 +8,10 @@ use Rattle.num.specs.declared.Order.{Order}
 use Rattle.body.specs.Check.{orElse}
 use Rattle.body.specs.Samples.{dataOf}
 use Rattle.body.specs.Table.{none, Row, sets, marks, leaves, samples, unknown, row}
-use Rattle.body.specs.declared.data.Data.{Data}
-use Rattle.body.specs.declared.data.Shape.{Shape}
-use Rattle.body.specs.declared.kind.Kind.{Kind}
-use Rattle.state.specs.State.{putIn, withValues, withMark}
+use Rattle.body.specs.declared.sampled.Data.{Data}
+use Rattle.body.specs.declared.sampled.Shape.{Shape}
+use Rattle.body.specs.declared.kinds.Kind.{Kind}
+use Rattle.state.specs.State.{setIn, withValues, withMark}
 use Rattle.state.specs.declared.Values.{Values}
 use Rattle.state.specs.declared.State.{State}
 use Rattle.effect.specs.Says.{Says, judged}
@@ -33,16 +33,16 @@ abbrev pub met : {A : Type 0} → Answer A → State → Effect
 met a s = record { says = judged a; shown = noState; after = s }
 
 -- a data chunk: a ready one shows values with the start mark and clears the mark, any other shows nothing and sets it
-abbrev pub timed : Says → Values → State → Effect
-timed says shows s = record { says = says; shown = pick (isReady says) (withValues s shows) noState; after = withMark s (pick (isReady says) false true) }
+abbrev pub dataEffect : Says → Values → State → Effect
+dataEffect says shows s = record { says = says; shown = pick (isReady says) (withValues s shows) noState; after = withMark s (pick (isReady says) false true) }
 
 -- data of a shape, with the values that it came to
 abbrev pub sampled : Shape → Answer Data → State → Effect
-sampled shape a s = timed (saysOf shape a (s .values)) (pick (ofGroup shape) (inGroup (s .values)) (s .values)) s
+sampled shape a s = dataEffect (saysOf shape a (s .values)) (pick (ofGroup shape) (inGroup (s .values)) (s .values)) s
 
 -- by the row of its kind: it sets its own value, or removes it where it is malformed; sets the mark; changes nothing; is data
 abbrev pub effectBy : Row → Order → List ℕ → State → Effect
-effectBy (sets x hold read) o body s = met (read o body) (withValues s (putIn x (orElse (none x) hold (read o body)) (s .values)))
+effectBy (sets x hold read) o body s = met (read o body) (withValues s (setIn x (orElse (none x) hold (read o body)) (s .values)))
 effectBy (marks read) o body s = met (read o body) (withMark s (marked (read o body) (s .mark)))
 effectBy (leaves read) o body s = met (read o body) s
 effectBy (samples shape) o body s = sampled shape (dataOf shape o body) s

@@ -1,4 +1,4 @@
 pub mod Says
 pub mod Ready
 pub mod Effect
-pub mod Took
+pub mod IsEffect

@@ -5,15 +5,15 @@ use lib.Dec.{eqb, ltb}
 use Rattle.num.specs.Answer.{Answer, gives, refuses}
 use Rattle.num.specs.Choice.{pick}
 use Rattle.body.specs.Groups.{noHertz, noGains}
-use Rattle.body.specs.declared.data.Data.{Data}
-use Rattle.body.specs.declared.data.Shape.{Shape}
-use Rattle.body.specs.declared.data.Shape.the-variants.{ShortPairs, ShortReals, ShortGroup, FloatPairs, FloatReals, FloatGroup}
-use Rattle.body.specs.declared.group.GroupPacking.{GroupPacking}
-use Rattle.body.specs.declared.group.GroupHertz.{GroupHertz}
-use Rattle.body.specs.declared.group.GroupGains.{GroupGains}
+use Rattle.body.specs.declared.sampled.Data.{Data}
+use Rattle.body.specs.declared.sampled.Shape.{Shape}
+use Rattle.body.specs.declared.sampled.Shape.the-variants.{ShortPairs, ShortReals, ShortGroup, FloatPairs, FloatReals, FloatGroup}
+use Rattle.body.specs.declared.groups.GroupPacking.{GroupPacking}
+use Rattle.body.specs.declared.groups.GroupHertz.{GroupHertz}
+use Rattle.body.specs.declared.groups.GroupGains.{GroupGains}
 use Rattle.cover.specs.Cover.{groupCovers}
 use Rattle.body.specs.Table.{frequencies, gains}
-use Rattle.state.specs.State.{emptied, putIn}
+use Rattle.state.specs.State.{emptied, setIn}
 use Rattle.state.specs.declared.Values.{Values}
 use Rattle.state.specs.declared.State.{State}
 use Rattle.effect.specs.Says.{Says, ok, unknown, bad, waits, ready}
@@ -73,7 +73,7 @@ abbrev pub gainsOf : ℕ → GroupGains → GroupGains
 gainsOf n g = pick (eqb (g .n) n) g noGains
 
 abbrev pub inGroup : Values → Values
-inGroup v = putIn gains (gainsOf (v .group .n) (v .gains)) (putIn frequencies (hertzOf (v .group .n) (v .frequencies)) v)
+inGroup v = setIn gains (gainsOf (v .group .n) (v .gains)) (setIn frequencies (hertzOf (v .group .n) (v .frequencies)) v)
 
 -- the data of a chunk that is ready; of any other there is none to copy: number 35
 abbrev pub readyData : Says → Answer Data

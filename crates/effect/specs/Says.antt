@@ -3,7 +3,7 @@ use Prim.Native.Nat.{ℕ}
 use lib.IntN.{ℤ}
 use Rattle.num.specs.Answer.{Answer, gives, refuses}
 use Rattle.body.specs.Fault.{faultNumber}
-use Rattle.body.specs.declared.data.Data.{Data}
+use Rattle.body.specs.declared.sampled.Data.{Data}
 use Rattle.effect.specs.declared.Lack.{Lack}
 use Rattle.effect.specs.declared.Lack.the-variants.{Packing, Rate, Scale}
 use Rattle.effect.specs.declared.Verdict.{Verdict}

@@ -7,9 +7,8 @@ use crate::Verdict;
 use crate::ready::Judged;
 use crate::ready::grouped;
 use crate::ready::single;
-use body::data;
-use body::data::Data;
-use body::kind::Kind;
+use body::Data;
+use body::Kind;
 use num::Order;
 use state::State;
 
@@ -42,12 +41,12 @@ pub fn ready_data(order: Order, kind: Kind, body: &[u8], was: State) -> Asked
     let scaled = was.values.float_scale.present;
     let group = was.values.group;
     match kind {
-        Kind::SSNC => answer(single(data::ssnc(order, body), packed, rated, true)),
-        Kind::SSNR => answer(single(data::ssnr(order, body), true, rated, true)),
-        Kind::SFNC => answer(single(data::sfnc(order, body), packed, rated, scaled)),
-        Kind::SFNR => answer(single(data::sfnr(order, body), true, rated, scaled)),
-        Kind::GSNC => answer(grouped(data::gsnc(order, body), group, rated, true)),
-        Kind::GFNC => answer(grouped(data::gfnc(order, body), group, rated, scaled)),
+        Kind::SSNC => answer(single(body::ssnc(order, body), packed, rated, true)),
+        Kind::SSNR => answer(single(body::ssnr(order, body), true, rated, true)),
+        Kind::SFNC => answer(single(body::sfnc(order, body), packed, rated, scaled)),
+        Kind::SFNR => answer(single(body::sfnr(order, body), true, rated, scaled)),
+        Kind::GSNC => answer(grouped(body::gsnc(order, body), group, rated, true)),
+        Kind::GFNC => answer(grouped(body::gfnc(order, body), group, rated, scaled)),
         _ => Asked::NotReady,
     }
 }

@@ -1,11 +1,14 @@
 // The effect of a chunk on the channel state: what is said of it, what it shows, and what it leaves.
 pub mod ask;
+pub mod effects;
 mod ready;
-pub mod take;
 mod value;
 
-use body::data::Data;
-use body::fault::Fault;
+pub use ask::Asked;
+pub use ask::ready_data;
+use body::Data;
+use body::Fault;
+pub use effects::take;
 use state::State;
 
 // What a well-formed data chunk lacks.

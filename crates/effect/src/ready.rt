@@ -7,15 +7,15 @@ ghost use Rattle.body.specs.Samples.{dataSaid};
 ghost use Rattle.state.specs.State.{withValues};
 ghost use Rattle.effect.specs.Says.{verdictSaid};
 ghost use Rattle.effect.specs.Ready.{dataSays, covering, isReady, noState, hertzOf, gainsOf, inGroup};
-ghost use Rattle.effect.specs.Effect.{timed};
-ghost use Rattle.effect.specs.Took.{Took};
+ghost use Rattle.effect.specs.Effect.{dataEffect};
+ghost use Rattle.effect.specs.IsEffect.{IsEffect};
 use crate::Lack;
 use crate::Taken;
 use crate::Verdict;
-use body::data::DataRead;
-use body::group::GroupGains;
-use body::group::GroupHertz;
-use body::group::GroupPacking;
+use body::DataRead;
+use body::GroupGains;
+use body::GroupHertz;
+use body::GroupPacking;
 use state::State;
 use state::Values;
 
@@ -77,13 +77,13 @@ fn is_ready(verdict: Verdict) -> bool
 fn hertz_of(n: usize, h: GroupHertz) -> GroupHertz
     ensures { λ r. ⌜ r ≡ hertzOf n h ⌝ }
 {
-    if h.n == n { h } else { body::group::no_hertz() }
+    if h.n == n { h } else { body::no_hertz() }
 }
 
 fn gains_of(n: usize, g: GroupGains) -> GroupGains
     ensures { λ r. ⌜ r ≡ gainsOf n g ⌝ }
 {
-    if g.n == n { g } else { body::group::no_gains() }
+    if g.n == n { g } else { body::no_gains() }
 }
 
 // The values as a group chunk shows them.
@@ -123,8 +123,8 @@ fn shows(ready: bool, group: bool, was: State) -> State
 }
 
 // A ready chunk shows values with the start mark, and clears the mark; any other shows nothing and sets it.
-pub(crate) fn timed(judged: Judged, was: State) -> Taken
-    ensures { λ r. ⌜ Took r (timed (verdictSaid (judged .verdict)) (pick (judged .group) (inGroup (was .values)) (was .values)) was) ⌝ }
+pub(crate) fn data_effect(judged: Judged, was: State) -> Taken
+    ensures { λ r. ⌜ IsEffect r (dataEffect (verdictSaid (judged .verdict)) (pick (judged .group) (inGroup (was .values)) (was .values)) was) ⌝ }
 {
     let verdict = judged.verdict;
     let ready = is_ready(verdict);

@@ -9,40 +9,39 @@ ghost use Rattle.body.specs.Values.{noNumber, noBand, noLevel, number, centred,
 ghost use Rattle.effect.specs.Says.{verdictSaid, judged};
 ghost use Rattle.effect.specs.Effect.{marked};
 use crate::Verdict;
-use body::fault::Checked;
-use body::level::Level;
-use body::level::LevelRead;
-use body::number::BandRead;
-use body::number::Number;
-use body::plain::TextRead;
-use body::value;
-use body::value::BandHeld;
-use body::value::Held;
-use body::value::LevelHeld;
+use body::BandHeld;
+use body::BandRead;
+use body::Checked;
+use body::Held;
+use body::Level;
+use body::LevelHeld;
+use body::LevelRead;
+use body::NumberRead;
+use body::TextRead;
 
-pub(crate) fn held(read: Number) -> Held
+pub(crate) fn held(read: NumberRead) -> Held
     ensures { λ r. ⌜ r ≡ orElse noNumber number (numberSaid read) ⌝ }
 {
     match read {
-        Number::Is(v) => Held {
+        NumberRead::Is(v) => Held {
             present: true,
             value: v,
         },
-        Number::Malformed(_) => value::no_number(),
+        NumberRead::Malformed(_) => body::no_number(),
     }
 }
 
 // BW__ sets the offset to 0.
-pub(crate) fn centred(read: Number) -> BandHeld
+pub(crate) fn centred(read: NumberRead) -> BandHeld
     ensures { λ r. ⌜ r ≡ orElse noBand centred (numberSaid read) ⌝ }
 {
     match read {
-        Number::Is(v) => BandHeld {
+        NumberRead::Is(v) => BandHeld {
             present: true,
             width: v,
             offset: 0,
         },
-        Number::Malformed(_) => value::no_band(),
+        NumberRead::Malformed(_) => body::no_band(),
     }
 }
 
@@ -50,12 +49,12 @@ pub(crate) fn banded(read: BandRead) -> BandHeld
     ensures { λ r. ⌜ r ≡ orElse noBand banded (bandSaid read) ⌝ }
 {
     match read {
-        BandRead::Spans(b) => BandHeld {
+        BandRead::Is(b) => BandHeld {
             present: true,
             width: b.width,
             offset: b.offset,
         },
-        BandRead::Faulty(_) => value::no_band(),
+        BandRead::Malformed(_) => body::no_band(),
     }
 }
 
@@ -77,7 +76,7 @@ pub(crate) fn levelled(read: LevelRead) -> LevelHeld
             present: true,
             value: amount(level),
         },
-        LevelRead::Malformed(_) => value::no_level(),
+        LevelRead::Malformed(_) => body::no_level(),
     }
 }
 
@@ -91,12 +90,12 @@ pub(crate) fn marked(checked: Checked, mark: bool) -> bool
     }
 }
 
-pub(crate) fn of_number(read: Number) -> Verdict
+pub(crate) fn of_number(read: NumberRead) -> Verdict
     ensures { λ r. ⌜ verdictSaid r ≡ judged (numberSaid read) ⌝ }
 {
     match read {
-        Number::Is(_) => Verdict::Good,
-        Number::Malformed(f) => Verdict::Malformed(f),
+        NumberRead::Is(_) => Verdict::Good,
+        NumberRead::Malformed(f) => Verdict::Malformed(f),
     }
 }
 
@@ -104,8 +103,8 @@ pub(crate) fn of_band(read: BandRead) -> Verdict
     ensures { λ r. ⌜ verdictSaid r ≡ judged (bandSaid read) ⌝ }
 {
     match read {
-        BandRead::Spans(_) => Verdict::Good,
-        BandRead::Faulty(f) => Verdict::Malformed(f),
+        BandRead::Is(_) => Verdict::Good,
+        BandRead::Malformed(f) => Verdict::Malformed(f),
     }
 }
 

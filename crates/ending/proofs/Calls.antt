@@ -17,7 +17,7 @@ use borrow.Table.Referent.{rtF, fInt}
 use Rattle.num.specs.declared.Order.{Order}
 use Rattle.copy.specs.Samples.{shortAt, patternAt}
 use Rattle.reader.specs.Step.{newCursor, stepOf}
-use Rattle.reader.specs.Took.{Took}
+use Rattle.reader.specs.IsStep.{IsStep}
 use Rattle.reader.specs.declared.Cursor.{Cursor}
 use Rattle.reader.proofs.Cursor.new.Kinds as new
 use Rattle.reader.proofs.Cursor.new.Reads as newReads
@@ -57,7 +57,7 @@ pub record StepOn (o : Order) (s : List ℕ) (c : Cursor) (a : StepCall) : Type 
   pub order : a .args .1 .0 ≡ o
   pub slice : a .args .1 .1 .0 .now ≡ s
 
-pub step-met : (o : Order) (s : List ℕ) (c : Cursor) (a : StepCall) → StepOn o s c a → Took (a .result) (stepOf o s c)
+pub step-met : (o : Order) (s : List ℕ) (c : Cursor) (a : StepCall) → StepOn o s c a → IsStep (a .result) (stepOf o s c)
 step-met o s c a h = rw (← h .self, ← h .order, ← h .slice) (a .met)
 
 -- ---- the copying calls

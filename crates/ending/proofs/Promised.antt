@@ -14,19 +14,19 @@ use Rattle.frame.proofs.Theorems.{Clean, search-stopped}
 use Rattle.copy.specs.Samples.{shortAt, patternAt}
 use Rattle.reader.specs.Items.{Given, items}
 use Rattle.reader.specs.Step.{newCursor, stepOf, after}
-use Rattle.reader.specs.Took.{Took}
+use Rattle.reader.specs.IsStep.{IsStep}
 use Rattle.reader.specs.declared.Cursor.{Cursor}
 use Rattle.reader.proofs.Theorems.{reads}
 use Rattle.ending.specs.Ending.{since, onto, givenBy, stepCounted, AcceptsFirstAt, lead, fromChunk}
 use Rattle.ending.proofs.Accepted.{searching-fit}
 use Rattle.ending.proofs.Calls.{NewCall, new-met, StepCall, ShortsCall, shortsOf, shorts-met, PatternsCall, patternsOf, patterns-met}
 use Rattle.ending.proofs.Copied.{SameCopies}
-use Rattle.ending.proofs.Theorems.{given, as-alone, ending-alone, alone-first, same-samples, clean-beginning-first}
+use Rattle.ending.proofs.Theorems.{givenFrom, as-alone, ending-alone, alone-first, same-samples, clean-beginning-first}
 use Rattle.ending.proofs.Runs.{came, Run, run-after, run-took, runItems, run-reads, SameAnswers, CopyOn, same-copy}
 
 -- each answer from the first accepted chunk on is the step of the ending alone, its place as far on as the beginning is long
 pub run-ending : (o : Order) (x l : List ℕ) (c : Cursor) → AcceptsFirstAt o (x ++ l) c (length x) → (m : ℕ) (calls : ℕ → StepCall) → Run m o (x ++ l) c calls →
-    (k : ℕ) → lead (length x) c + k < m → Took (calls (lead (length x) c + k) .result) (stepCounted (onto (length x)) (stepOf o l (after k o l newCursor)))
+    (k : ℕ) → lead (length x) c + k < m → IsStep (calls (lead (length x) c + k) .result) (stepCounted (onto (length x)) (stepOf o l (after k o l newCursor)))
 run-ending o x l c f m calls r k i = rw (← as-alone o x l c f k .step) (run-took m o (x ++ l) c calls r (lead (length x) c + k) i)
 
 -- ---- two runs, in streams with one ending, in which the first chunk that each reader accepts begins the ending
@@ -83,5 +83,5 @@ module _ (o : Order) (x l : List ℕ) (c : Cursor) (f : AcceptsFirstAt o (x ++ l
       let u = searching-fit o s c (length x) f in
       let w = search-stopped o s (c .place) (length x) (f .stopped) in
       let q : c .place ≤ length s = omega (arith, w .low, w .high) in
-      let e : runItems m calls ≡ given o s c = run-reads m o s c calls r ∙ reads m o s c u q (omega arith) ∙ sym (reads (suc (length s)) o s c u q (omega arith)) in
+      let e : runItems m calls ≡ givenFrom o s c = run-reads m o s c calls r ∙ reads m o s c u q (omega arith) ∙ sym (reads (suc (length s)) o s c u q (omega arith)) in
       ap (λ (gs : List Given). map (givenBy (since (length x))) (fromChunk gs)) e ∙ ending-alone o x l c f

@@ -10,7 +10,7 @@ use Rattle.num.specs.declared.Order.{Order}
 use Rattle.reader.specs.Item.{itemSaid}
 use Rattle.reader.specs.Items.{Given}
 use Rattle.reader.specs.Step.{Step, stepOf, after}
-use Rattle.reader.specs.Took.{Took}
+use Rattle.reader.specs.IsStep.{IsStep}
 use Rattle.reader.specs.declared.Cursor.{Cursor}
 use Rattle.reader.specs.declared.Stepped.{Stepped}
 use Rattle.reader.proofs.Theorems.{after-suc, told, reading}
@@ -33,7 +33,7 @@ abbrev pub Run : ℕ → Order → List ℕ → Cursor → (ℕ → StepCall) �
 Run n o s c calls = (k : ℕ) → k < n → StepOn o s (came c calls k) (calls k)
 
 module _ (n : ℕ) (o : Order) (s : List ℕ) (c : Cursor) (calls : ℕ → StepCall) (r : Run n o s c calls) where
-  pub took : (k : ℕ) → k < n → Took (calls k .result) (stepOf o s (came c calls k))
+  pub took : (k : ℕ) → k < n → IsStep (calls k .result) (stepOf o s (came c calls k))
   took k h = step-met o s (came c calls k) (calls k) (r k h)
 
   -- the run's cursors are those of the rules
@@ -42,7 +42,7 @@ module _ (n : ℕ) (o : Order) (s : List ℕ) (c : Cursor) (calls : ℕ → Step
   run-after zero h = refl
   run-after (suc k) h = took k (omega arith) .cursor ∙ ap (λ (d : Cursor). stepOf o s d .cursor) (run-after k (omega arith)) ∙ sym (after-suc k o s c)
 
-  pub run-took : (k : ℕ) → k < n → Took (calls k .result) (stepOf o s (after k o s c))
+  pub run-took : (k : ℕ) → k < n → IsStep (calls k .result) (stepOf o s (after k o s c))
   run-took k h = rw (← run-after k (omega arith)) (took k h)
 
 -- the items that a run's answers give, up to End or a refusal
@@ -69,8 +69,8 @@ run-reads (suc n) o s c calls r =
 
 pub record SameAnswers (p : ℕ) (a : Stepped) (q : ℕ) (b : Stepped) : Type 0 where
   pub step : Step
-  pub one : Took a (stepCounted (onto p) step)
-  pub other : Took b (stepCounted (onto q) step)
+  pub one : IsStep a (stepCounted (onto p) step)
+  pub other : IsStep b (stepCounted (onto q) step)
 
 -- so they say the same, places counted from p in one and from q in the other
 pub record SameCounted (p : ℕ) (a : Stepped) (q : ℕ) (b : Stepped) : Type 0 where

@@ -20,11 +20,11 @@ use Rattle.ending.proofs.Accepted.{AsIn, as-in, first-items}
 use Rattle.ending.proofs.Copied.{SameCopies, copies-as, copies-sym, copies-trans}
 
 -- the items that the steps from a cursor give, to the end of the stream; and those from the first chunk on
-abbrev pub given : Order → List ℕ → Cursor → List Given
-given o s c = reading (suc (length s)) o s c
+abbrev pub givenFrom : Order → List ℕ → Cursor → List Given
+givenFrom o s c = reading (suc (length s)) o s c
 
-abbrev pub onward : Order → List ℕ → Cursor → List Given
-onward o s c = fromChunk (given o s c)
+abbrev pub givenOn : Order → List ℕ → Cursor → List Given
+givenOn o s c = fromChunk (givenFrom o s c)
 
 -- the cursor at the first chunk that a searching reader accepts, which stands at p, and k steps on
 abbrev pub later : ℕ → Order → List ℕ → ℕ → Cursor → Cursor
@@ -42,11 +42,11 @@ module _ (o : Order) (x l : List ℕ) (c : Cursor) (f : AcceptsFirstAt o (x ++ l
   as-alone k = rw (drop-append-seam x l) at (as-in o (x ++ l) c (length x) f k)
 
   -- the items are those that the ending gives alone, each place as far on as the beginning is long
-  pub ending-items : onward o (x ++ l) c ≡ map (givenBy (onto (length x))) (items o l)
+  pub ending-items : givenOn o (x ++ l) c ≡ map (givenBy (onto (length x))) (items o l)
   ending-items = rw (drop-append-seam x l) at (first-items o (x ++ l) c (length x) f)
 
   -- so, counted from the start of the ending, they are just those
-  pub ending-alone : map (givenBy (since (length x))) (onward o (x ++ l) c) ≡ items o l
+  pub ending-alone : map (givenBy (since (length x))) (givenOn o (x ++ l) c) ≡ items o l
   ending-alone = ap (map (givenBy (since (length x)))) ending-items ∙ given-back (length x) (items o l)
 
   -- so is each step: the answer, the state shown, the cursor that it leaves
@@ -68,7 +68,7 @@ module _ (o : Order) (x l : List ℕ) (c : Cursor) (f : AcceptsFirstAt o (x ++ l
 module _ (o : Order) (x y l : List ℕ) (c d : Cursor)
     (f : AcceptsFirstAt o (x ++ l) c (length x)) (g : AcceptsFirstAt o (y ++ l) d (length y)) where
   -- all items from there on are the same, places counted from the start of the ending
-  pub common-ending : map (givenBy (since (length x))) (onward o (x ++ l) c) ≡ map (givenBy (since (length y))) (onward o (y ++ l) d)
+  pub common-ending : map (givenBy (since (length x))) (givenOn o (x ++ l) c) ≡ map (givenBy (since (length y))) (givenOn o (y ++ l) d)
   common-ending = ending-alone o x l c f ∙ sym (ending-alone o y l d g)
 
   pub same-steps : (k : ℕ) →
@@ -97,5 +97,5 @@ module _ (o : Order) (x l : List ℕ) (code size : ℕ) (h : Clean o x l) (e : s
   }
 
   -- so from there on it gives what the ending gives alone
-  pub clean-beginning-items : map (givenBy (since (length x))) (onward o (x ++ l) c) ≡ items o l
+  pub clean-beginning-items : map (givenBy (since (length x))) (givenOn o (x ++ l) c) ≡ items o l
   clean-beginning-items = ending-alone o x l c clean-beginning-first

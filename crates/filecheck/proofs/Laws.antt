@@ -18,7 +18,7 @@ use Rattle.frame.proofs.Looks.{other-made}
 use Rattle.frame.proofs.Frames.{frames-nil, frames-chunk, no-chunk}
 use Rattle.body.specs.Kind.{kindOf}
 use Rattle.reader.proofs.Laws.{chunk-size}
-use Rattle.filecheck.specs.File.{FileAnswer, good, refused, partOf, wellFormed, begins, passes, onward, fileFrom, fileAhead, fileBy, fileOf}
+use Rattle.filecheck.specs.File.{FileAnswer, good, refused, partOf, wellFormed, begins, passes, thenRest, fileFrom, fileAhead, fileBy, fileOf}
 use Rattle.filecheck.specs.declared.Part.{Part}
 use Rattle.filecheck.specs.declared.Part.the-variants.{Data, Header, HeaderEnd, Other}
 use Rattle.filecheck.proofs.Part as Part
@@ -50,17 +50,17 @@ file-chunk o s code size h e = ap (fileBy o) (frames-chunk o s 0 h code size e) 
 -- and one after it
 pub ahead-chunk : (o : Order) (s : List ℕ) (n place : ℕ) (ended : Bool) (code size : ℕ) → place < length s → shows o (drop place s) ≡ Complete code size →
     fileAhead o s n place ended
-    ≡ onward place (passes (partOf (kindOf code)) ended (wellFormed o code (take size (drop 12 (drop place s)))))
+    ≡ thenRest place (passes (partOf (kindOf code)) ended (wellFormed o code (take size (drop 12 (drop place s)))))
     (fileAhead o s (n + 1) (place + 12 + size))
 unfolding fileFrom
 ahead-chunk o s n place ended code size h e = ap (fileFrom o n place ended) (frames-chunk o s place h code size e) ∙ simp (chunk-size o s place code size e)
 
 -- data, by whether the header was ended before it
 module _ (place : ℕ) (ended : Bool) (f : Bool → FileAnswer) where
-  pub data-ended : ended ≡ true → onward place (pick ended (gives true) (refuses 42)) f ≡ f ended
+  pub data-ended : ended ≡ true → thenRest place (pick ended (gives true) (refuses 42)) f ≡ f ended
   data-ended e = rw e
 
-  pub data-early : ended ≡ false → onward place (pick ended (gives true) (refuses 42)) f ≡ refused 42 place
+  pub data-early : ended ≡ false → thenRest place (pick ended (gives true) (refuses 42)) f ≡ refused 42 place
   data-early e = rw e
 
 -- the end of the file

@@ -18,7 +18,7 @@ use Rattle.body.specs.Table.{shaped}
 use Rattle.body.specs.Verdict.{verdict}
 use Rattle.reader.specs.Items.{items}
 use Rattle.reader.proofs.Theorems.{items-length}
-use Rattle.filecheck.specs.File.{FileAnswer, good, refused, fileSaid, partOf, wellFormed, begins, passes, onward, fileFrom, fileBy, fileOf}
+use Rattle.filecheck.specs.File.{FileAnswer, good, refused, fileSaid, partOf, wellFormed, begins, passes, thenRest, fileFrom, fileBy, fileOf}
 use Rattle.filecheck.specs.declared.FileChecked.{FileChecked}
 use Rattle.filecheck.specs.declared.FileChecked.the-variants.{Good, NoHeader, HeaderNotEnded, SecondHeader, NotAChunk}
 
@@ -46,7 +46,7 @@ file-told a b e = sym (case-back a) ∙ ap caseOf e ∙ case-back b
 
 -- ---- the number of a good file is that of its items
 
-onward-good : (place m : ℕ) (a : Answer Bool) (f : Bool → FileAnswer) (n : ℕ) → ((next : Bool) → f next ≡ good m → m ≡ n) → onward place a f ≡ good m → m ≡ n
+onward-good : (place m : ℕ) (a : Answer Bool) (f : Bool → FileAnswer) (n : ℕ) → ((next : Bool) → f next ≡ good m → m ≡ n) → thenRest place a f ≡ good m → m ≡ n
 onward-good place m (gives next) f n h e = h next e
 onward-good place m (refuses k) f n h e = let z : _≡_ {A = ℕ} 0 1 = cc in absurd (omega arith)
 
@@ -59,7 +59,7 @@ unfolding fileFrom
 from-good o n place ended [] m e = omega (arith, end-good ended n place m e)
 from-good o n place ended (f ∷ rest) m e =
     of-chunk (λ (x : FileAnswer). x ≡ good m → m ≡ n + length (f ∷ rest)) (refused 44 place)
-    (λ code body. onward place (passes (partOf (kindOf code)) ended (wellFormed o code body)) (λ next. fileFrom o (n + 1) (place + 12 + length body) next rest))
+    (λ code body. thenRest place (passes (partOf (kindOf code)) ended (wellFormed o code body)) (λ next. fileFrom o (n + 1) (place + 12 + length body) next rest))
     f
     (λ q. let z : _≡_ {A = ℕ} 0 1 = cc in absurd (omega arith))
     (λ code body. onward-good place m (passes (partOf (kindOf code)) ended (wellFormed o code body))

@@ -11,10 +11,10 @@ use Rattle.frame.specs.Frames.{Frame, ofChunk, frames}
 use Rattle.body.specs.Kind.{codeOf, kindOf}
 use Rattle.body.specs.Table.{shaped}
 use Rattle.body.specs.Verdict.{verdict}
-use Rattle.body.specs.declared.kind.Kind.{Kind}
-use Rattle.body.specs.declared.kind.Kind.the-variants.{SOFH, EOFH}
-use Rattle.body.specs.declared.data.Shaped.{Shaped}
-use Rattle.body.specs.declared.data.Shaped.the-variants.{Samples, NoSamples}
+use Rattle.body.specs.declared.kinds.Kind.{Kind}
+use Rattle.body.specs.declared.kinds.Kind.the-variants.{SOFH, EOFH}
+use Rattle.body.specs.declared.sampled.Shaped.{Shaped}
+use Rattle.body.specs.declared.sampled.Shaped.the-variants.{Samples, NoSamples}
 use Rattle.filecheck.specs.declared.FileChecked.{FileChecked}
 use Rattle.filecheck.specs.declared.FileChecked.the-variants.{Good, NoHeader, HeaderNotEnded, SecondHeader, NotAChunk}
 use Rattle.filecheck.specs.declared.Part.{Part}
@@ -68,9 +68,9 @@ passes HeaderEnd ended well = gives (either ended well)
 passes Other ended well = gives ended
 
 -- a refusal stands at its place; what was passed goes on
-abbrev pub onward : ℕ → Answer Bool → (Bool → FileAnswer) → FileAnswer
-onward place (gives ended) rest = rest ended
-onward place (refuses number) rest = refused number place
+abbrev pub thenRest : ℕ → Answer Bool → (Bool → FileAnswer) → FileAnswer
+thenRest place (gives ended) rest = rest ended
+thenRest place (refuses number) rest = refused number place
 
 -- The frames from a place on, n items lying before it, and the header ended or not. What is no chunk is refused with 44,
 -- the end of the file before the header's end with 42.
@@ -79,7 +79,7 @@ fileFrom o n place ended [] = pick ended (good n) (refused 42 place)
 fileFrom o n place ended (f ∷ rest) =
     ofChunk (refused 44 place)
     (λ code body.
-    onward place (passes (partOf (kindOf code)) ended (wellFormed o code body))
+    thenRest place (passes (partOf (kindOf code)) ended (wellFormed o code body))
     (λ next. fileFrom o (n + 1) (place + 12 + length body) next rest))
     f
 

@@ -5,8 +5,8 @@ ghost use lib.ListN.{length};
 ghost use Rattle.body.specs.Verdict.{verdict};
 ghost use Rattle.filecheck.specs.File.{fileSaid, partOf, isGood, fileAhead, fileOf};
 ghost use Rattle.filecheck.specs.Inner.Turn.{turnSaid, forward, Turned};
-use body::fault::Checked;
-use body::kind::Kind;
+use body::Checked;
+use body::Kind;
 use frame::Ahead;
 use num::Order;
 
@@ -54,7 +54,7 @@ fn part_of(kind: Kind) -> Part
 fn well_formed(order: Order, kind: Kind, body: &[u8]) -> bool
     ensures { λ r. ⌜ r ≡ isGood (verdict order kind (now (body .entry))) ⌝ }
 {
-    match body::verdict::check(order, kind, body) {
+    match body::check(order, kind, body) {
         Checked::Good => true,
         Checked::Malformed(_) => false,
     }
@@ -68,7 +68,7 @@ fn begin(order: Order, s: &[u8]) -> Turn
         return Turn::Stops(FileChecked::NoHeader);
     };
     let to = 12 + size;
-    let kind = body::kind::kind_of(code);
+    let kind = body::kind_of(code);
     let Part::Header = part_of(kind) else {
         return Turn::Stops(FileChecked::NoHeader);
     };
@@ -89,7 +89,7 @@ fn next(order: Order, s: &[u8], place: usize, ended: bool) -> Turn
     };
     let from = place + 12;
     let to = from + size;
-    let kind = body::kind::kind_of(code);
+    let kind = body::kind_of(code);
     match part_of(kind) {
         Part::Data => {
             if ended {

@@ -1,6 +1,9 @@
 // Bytes laid over a lent slice from a place on. Where they do not fit, nothing is written.
 pub mod runs;
 
+pub use runs::longs;
+pub use runs::shorts;
+pub use runs::words;
 ghost use mathlib.Core.Path.{_≡_};
 ghost use Prim.Native.Nat.{_+_, _*_, _≤_};
 ghost use lib.Dec.{leb};
@@ -31,16 +34,16 @@ fn lead(at: usize, count: usize) -> usize
     if count < 256 { 0 } else { (16 - at % 16) % 16 }
 }
 
-// Whether `count` values of `wide` bytes fit into `whole` bytes from the place `at` on. Nothing is multiplied, so that no test
+// Whether `count` values of `stride` bytes fit into `whole` bytes from the place `at` on. Nothing is multiplied, so that no test
 // overflows.
-fn room(whole: usize, at: usize, wide: usize, count: usize) -> bool
-    requires { ⌜ 1 ≤ wide ⌝ }
-    ensures { λ r. ⌜ r ≡ leb (at + count * wide) whole ⌝ }
+fn room(whole: usize, at: usize, stride: usize, count: usize) -> bool
+    requires { ⌜ 1 ≤ stride ⌝ }
+    ensures { λ r. ⌜ r ≡ leb (at + count * stride) whole ⌝ }
 {
     if whole < at {
         return false;
     }
-    count <= (whole - at) / wide
+    count <= (whole - at) / stride
 }
 
 // All of src into out, from the place `at` on. True where it fits.

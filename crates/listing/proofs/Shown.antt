@@ -16,7 +16,7 @@ use Rattle.num.specs.Number.{bytesOf}
 use Rattle.num.specs.declared.Order.{Order}
 use Rattle.num.specs.declared.Order.the-variants.{Big, Little}
 use Rattle.body.specs.Kind.{kindOf}
-use Rattle.body.specs.declared.fault.Fault.the-variants as faults
+use Rattle.body.specs.declared.faults.Fault.the-variants as faults
 use Rattle.effect.specs.Says.{verdictSaid}
 use Rattle.effect.specs.declared.Lack.the-variants as lacks
 use Rattle.effect.specs.declared.Verdict.{Verdict}

@@ -5,9 +5,9 @@ use mathlib.Core.Bool.{true}
 use mathlib.Core.List.{List, [], _∷_}
 use denote.Enum.Declared.{tagOf}
 use types.Run.{OneOf, miss}
-use Rattle.body.specs.declared.kind.Kind.{Kind}
-use Rattle.body.specs.declared.kind.Kind.the-variants.{SSNC, SSNR, SFNC, SFNR, GSNC, GFNC, SIQP, SR, BW, GCBW, BWOF, CF, DBFS, DBTG, FFS, GIQP, GCF, GRG, SOFH, EOFH, IQDC, TEXT, Unknown}
-use Rattle.body.proofs.kind.Kind.{the-type}
+use Rattle.body.specs.declared.kinds.Kind.{Kind}
+use Rattle.body.specs.declared.kinds.Kind.the-variants.{SSNC, SSNR, SFNC, SFNR, GSNC, GFNC, SIQP, SR, BW, GCBW, BWOF, CF, DBFS, DBTG, FFS, GIQP, GCF, GRG, SOFH, EOFH, IQDC, TEXT, Unknown}
+use Rattle.body.proofs.kinds.Kind.{the-type}
 use Rattle.effect.specs.Says.{ok, verdictSaid}
 use Rattle.effect.specs.declared.Verdict.{Verdict}
 use Rattle.effect.specs.declared.Verdict.the-variants as verdicts

@@ -10,7 +10,7 @@ use Rattle.num.specs.Number.{bytesOf}
 use Rattle.num.specs.declared.Order.{Order}
 use Rattle.num.specs.declared.Order.the-variants.{Big, Little}
 use Rattle.body.specs.Kind.{codeOf, kindOf}
-use Rattle.body.specs.declared.kind.Kind.{Kind}
+use Rattle.body.specs.declared.kinds.Kind.{Kind}
 use Rattle.effect.specs.Says.{Says, ok, unknown, bad, waits, ready}
 use Rattle.reader.specs.Item.{Item, end, skipped, unfinished, chunk}
 use Rattle.listing.specs.Words.{newline, spaced, numberWord, hexWord}

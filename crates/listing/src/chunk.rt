@@ -13,7 +13,7 @@ use crate::words::hex_word;
 use crate::words::newline;
 use crate::words::number;
 use crate::words::numbered;
-use body::kind::Kind;
+use body::Kind;
 use effect::Lack;
 use effect::Verdict;
 use num::Order;
@@ -30,7 +30,7 @@ pub(crate) fn chunk(place: usize, code: u32, size: usize, verdict: Verdict) -> T
 fn name(code: u32) -> Text
     ensures { λ r. ⌜ r ≡ textOf (nameBy (kindOf code) code) ⌝ }
 {
-    match body::kind::kind_of(code) {
+    match body::kind_of(code) {
         Kind::Unknown => hex_word(code),
         _ => letters(code),
     }
@@ -51,7 +51,7 @@ fn judged(verdict: Verdict) -> Text
     match verdict {
         Verdict::Good | Verdict::Ready(_) => word(b" ok"),
         Verdict::Unknown => word(b" unknown"),
-        Verdict::Malformed(fault) => numbered(b" bad", body::fault::number_of(fault) as usize),
+        Verdict::Malformed(fault) => numbered(b" bad", body::number_of(fault) as usize),
         Verdict::NotCovered => numbered(b" bad", 16),
         Verdict::Waits(lack, _) => numbered(b" wait", number_of(lack)),
     }

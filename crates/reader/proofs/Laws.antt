@@ -25,7 +25,7 @@ use Rattle.effect.specs.Ready.{noState}
 use Rattle.effect.specs.Says.{Says}
 use Rattle.reader.specs.Item.{Item, end, skipped, unfinished, chunk, ofChunk, isChunk, isEnd, placedBy, itemSaid}
 use Rattle.reader.specs.Step.{refused, skips, stepBy, stepOf}
-use Rattle.reader.specs.Took.{Took}
+use Rattle.reader.specs.IsStep.{IsStep}
 use Rattle.reader.specs.declared.Cursor.{Cursor}
 use Rattle.reader.specs.declared.Item as declared
 use Rattle.reader.specs.declared.Item.the-variants as variants
@@ -78,7 +78,7 @@ module _ (o : Order) (s : List ℕ) (at code size : ℕ) (e : shows o (drop at s
 
 -- an answer that shows nothing and leaves the cursor
 pub still-took : {r : Stepped} {i : declared.Item} {c : Cursor} → (r .item ≡ i) × (r .shown ≡ noState) × (r .cursor ≡ c) →
-    Took r (record { item = itemSaid i; shown = noState; cursor = c })
+    IsStep r (record { item = itemSaid i; shown = noState; cursor = c })
 still-took h = record { item = ap itemSaid (h .0); shown = h .1; cursor = h .2 }
 
 -- what holds of what is made of every chunk, and of what is made of every other item, holds of what is made of an item

@@ -1,4 +1,4 @@
 pub mod Item
 pub mod Step
 pub mod Items
-pub mod Took
+pub mod IsStep

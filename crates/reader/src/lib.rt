@@ -10,7 +10,7 @@ ghost use Rattle.frame.specs.Frames.{width, first};
 ghost use Rattle.frame.specs.Place.{gap};
 ghost use Rattle.state.specs.State.{withMark};
 ghost use Rattle.reader.specs.Items.{items};
-ghost use Rattle.reader.specs.Took.{Took};
+ghost use Rattle.reader.specs.IsStep.{IsStep};
 ghost use Rattle.reader.specs.Step.{newCursor, before, accepted, lost, accepts, cuts, skips, stepOf};
 use effect::Verdict;
 use frame::Ahead;
@@ -110,7 +110,7 @@ impl Cursor {
 
     // One item, and the cursor moved on.
     pub fn step(self, order: Order, s: &[u8]) -> Stepped
-        ensures { λ r. ⌜ Took r (stepOf order (now (s .entry)) self) ⌝ }
+        ensures { λ r. ⌜ IsStep r (stepOf order (now (s .entry)) self) ⌝ }
     {
         let cursor = self.anew();
         cursor.go_on(order, s)
@@ -118,7 +118,7 @@ impl Cursor {
 
     // The same of a cursor whose state is put together.
     fn go_on(self, order: Order, s: &[u8]) -> Stepped
-        ensures { λ r. ⌜ Took r (stepOf order (now (s .entry)) self) ⌝ }
+        ensures { λ r. ⌜ IsStep r (stepOf order (now (s .entry)) self) ⌝ }
     {
         let at = self.place;
         if s.len() < at {
@@ -164,12 +164,12 @@ fn still(item: Item, cursor: Cursor) -> Stepped
 // A complete chunk is accepted: the body takes effect on the state.
 fn chunk(order: Order, code: u32, body: &[u8], cursor: Cursor) -> Stepped
     requires { ⌜ cursor .place + 12 + length (now body) < 2 ^ 64 ⌝ }
-    ensures { λ r. ⌜ Took r (accepts cursor code (length (now (body .entry))) (effect order (kindOf code) (now (body .entry)) (before (cursor .«in_step») (cursor .state)))) ⌝ }
+    ensures { λ r. ⌜ IsStep r (accepts cursor code (length (now (body .entry))) (effect order (kindOf code) (now (body .entry)) (before (cursor .«in_step») (cursor .state)))) ⌝ }
 {
     let place = cursor.place;
     let size = body.len();
     let next = cursor.accept(place + 12 + size);
-    let taken = effect::take::take(order, body::kind::kind_of(code), body, next.state);
+    let taken = effect::take(order, body::kind_of(code), body, next.state);
     let after = taken.state;
     let shown = taken.shown;
     let verdict = taken.verdict;
@@ -192,7 +192,7 @@ fn chunk(order: Order, code: u32, body: &[u8], cursor: Cursor) -> Stepped
 // An unfinished end of so many bytes.
 fn cut(left: usize, cursor: Cursor) -> Stepped
     requires { ⌜ cursor .place + left < 2 ^ 64 ⌝ }
-    ensures { λ r. ⌜ Took r (cuts cursor left) ⌝ }
+    ensures { λ r. ⌜ IsStep r (cuts cursor left) ⌝ }
 {
     let place = cursor.place;
     let state = cursor.state;
@@ -213,7 +213,7 @@ fn cut(left: usize, cursor: Cursor) -> Stepped
 // The stretch up to where a search stops is skipped.
 fn skip(order: Order, s: &[u8], cursor: Cursor) -> Stepped
     requires { ⌜ cursor .place ≤ length (now s) ⌝ }
-    ensures { λ r. ⌜ Took r (skips cursor (gap order (drop (cursor .place) (now (s .entry))))) ⌝ }
+    ensures { λ r. ⌜ IsStep r (skips cursor (gap order (drop (cursor .place) (now (s .entry))))) ⌝ }
 {
     let place = cursor.place;
     let to = stop(order, s, place);

@@ -13,7 +13,7 @@ use Rattle.frame.specs.Place.{starts, shows}
 use Rattle.body.specs.Kind.{codeOf, known, kindIn, kindOf}
 use Rattle.body.specs.Groups.{listed, offsetAt, packed}
 use Rattle.body.specs.Lists.{upto}
-use Rattle.body.specs.declared.kind.Kind.the-variants.{SR, GIQP, GSNC}
+use Rattle.body.specs.declared.kinds.Kind.the-variants.{SR, GIQP, GSNC}
 use Rattle.copy.specs.Samples.{pairsOf}
 use Rattle.cover.specs.Cover.{total, covers, groupCovers}
 use Rattle.effect.specs.Effect.{effect}

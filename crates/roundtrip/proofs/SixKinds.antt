@@ -12,11 +12,11 @@ use Rattle.num.specs.Answer.{gives}
 use Rattle.num.specs.declared.Order.{Order}
 use Rattle.body.specs.Kind.{codeOf, kindOf, kindIn, known}
 use Rattle.body.specs.Groups.{isNumber}
-use Rattle.body.specs.declared.data.Data.{Data}
-use Rattle.body.specs.declared.group.GroupPacking.{GroupPacking}
-use Rattle.body.specs.declared.kind.Kind.{Kind}
-use Rattle.body.specs.declared.kind.Kind.the-variants.{SSNC, SSNR, SFNC, SFNR, GSNC, GFNC}
-use Rattle.copy.specs.Samples.{iOf, qOf, laid}
+use Rattle.body.specs.declared.sampled.Data.{Data}
+use Rattle.body.specs.declared.groups.GroupPacking.{GroupPacking}
+use Rattle.body.specs.declared.kinds.Kind.{Kind}
+use Rattle.body.specs.declared.kinds.Kind.the-variants.{SSNC, SSNR, SFNC, SFNR, GSNC, GFNC}
+use Rattle.copy.specs.Samples.{iOf, qOf, frontFilled}
 use Rattle.effect.specs.Says.{ready}
 use Rattle.reader.specs.Item.{chunk}
 use Rattle.reader.specs.Step.{stepOf}
@@ -29,7 +29,7 @@ use Rattle.samples.specs.Inner.Plan.{wide}
 use Rattle.samples.proofs.Ready.{bytesIn}
 use Rattle.roundtrip.proofs.Numbers.{Number, none}
 use Rattle.roundtrip.proofs.Values.{reals-list, pairs-list}
-use Rattle.roundtrip.proofs.Theorems.{Here, leftBy, laid-back, pairs-laid, ready-layout, ready-count}
+use Rattle.roundtrip.proofs.Theorems.{Here, leftBy, filled-back, pairs-laid, ready-layout, ready-count}
 
 abbrev pub realKind : Bool → Kind
 realKind true = SFNR
@@ -79,24 +79,24 @@ module _ (float : Bool) (o : Order) (s : List ℕ) (c : Cursor) (time : ℤ) (xs
     (e : stepOf o s c .item ≡ gives (chunk p k size (ready d))) where
   -- SSNR and SFNR: the numbers given are the numbers copied.
   pub reals-back : Here float o s c (codeOf (realKind float)) time xs → length xs ≤ length out →
-      (countOf float o s c 0 (length out) ≡ gives (length xs)) × (leftBy float o s c 0 out ≡ laid xs out)
+      (countOf float o s c 0 (length out) ≡ gives (length xs)) × (leftBy float o s c 0 out ≡ frontFilled xs out)
   reals-back h r =
       let n : length xs ≡ d .samples = real-count float (length xs) (d .samples) (ready-count float o s c _ time xs h p k size d e) in
       let l = ready-layout float o s c _ time xs h p k size d 0 e ∙ real-layout float (stepOf o s c .shown) d in
-      let b = laid-back float o s c _ time xs h 0 out (real d) l (omega arith) in
+      let b = filled-back float o s c _ time xs h 0 out (real d) l (omega arith) in
       let v : valuesOf (λ k. getD xs k (none float)) (real d) ≡ xs = rw (← n) (reals-list xs (none float) (length xs) (omega arith) ∙ take-length xs) in
-      (b .0 ∙ ap gives (sym n), b .1 ∙ ap (λ ys. laid ys out) v)
+      (b .0 ∙ ap gives (sym n), b .1 ∙ ap (λ ys. frontFilled ys out) v)
 
   -- SSNC and SFNC where I stands before Q: so too.
   pub pairs-back : Here float o s c (codeOf (pairKind float)) time xs → stepOf o s c .shown .values .packing .value ≡ pos 1 → length xs ≤ length out →
-      (countOf float o s c 0 (length out) ≡ gives (length xs)) × (leftBy float o s c 0 out ≡ laid xs out)
+      (countOf float o s c 0 (length out) ≡ gives (length xs)) × (leftBy float o s c 0 out ≡ frontFilled xs out)
   pairs-back h iq r =
       let n : length xs ≡ 2 * d .samples = pair-count float (length xs) (d .samples) (ready-count float o s c _ time xs h p k size d e) in
       let l = ready-layout float o s c _ time xs h p k size d 0 e ∙ pair-layout float (stepOf o s c .shown) d in
-      let b = laid-back float o s c _ time xs h 0 out (paired (stepOf o s c .shown) d) l (omega arith) in
+      let b = filled-back float o s c _ time xs h 0 out (paired (stepOf o s c .shown) d) l (omega arith) in
       let t : take (2 * d .samples) xs ≡ xs = rw (← n) (take-length xs) in
       let v : valuesOf (λ k. getD xs k (none float)) (paired (stepOf o s c .shown) d) ≡ xs = rw iq (pairs-list xs (none float) (d .samples) (omega arith) ∙ t) in
-      (b .0 ∙ ap gives (sym n), b .1 ∙ ap (λ ys. laid ys out) v)
+      (b .0 ∙ ap gives (sym n), b .1 ∙ ap (λ ys. frontFilled ys out) v)
 
   -- SSNC and SFNC in any packing: pair j is given as its I, then its Q.
   pub pairs-packed-back : Here float o s c (codeOf (pairKind float)) time xs → length xs ≤ length out →

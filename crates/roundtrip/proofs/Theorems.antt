@@ -19,8 +19,8 @@ use Rattle.frame.specs.declared.At.{At}
 use Rattle.frame.specs.declared.At.the-variants.{Complete}
 use Rattle.frame.proofs.Frames.{chunk-shows}
 use Rattle.body.specs.Kind.{kindOf}
-use Rattle.body.specs.declared.data.Data.{Data}
-use Rattle.copy.specs.Samples.{placeOf, iOf, qOf, pairsOf, laid}
+use Rattle.body.specs.declared.sampled.Data.{Data}
+use Rattle.copy.specs.Samples.{placeOf, iOf, qOf, pairsOf, frontFilled}
 use Rattle.copy.proofs.Laws.{length-pairs}
 use Rattle.effect.specs.Says.{Says, ready}
 use Rattle.reader.specs.Item.{Item, chunk}
@@ -139,10 +139,10 @@ module _ (float : Bool) (o : Order) (s : List ℕ) (c : Cursor) (code : ℕ) (ti
   copied-back channel out = filled-by channel out (countOf float o s c channel (length out)) (layoutAt float o s c channel) refl
 
   -- where a layout is given and the slice has room, its numbers are copied
-  pub laid-back : (channel : ℕ) (out : List (Number float)) (l : Layout) → layoutAt float o s c channel ≡ gives l → numbers l ≤ length out →
+  pub filled-back : (channel : ℕ) (out : List (Number float)) (l : Layout) → layoutAt float o s c channel ≡ gives l → numbers l ≤ length out →
       (countOf float o s c channel (length out) ≡ gives (numbers l))
-      × (leftBy float o s c channel out ≡ laid (valuesOf (λ k. getD xs k (none float)) l) out)
-  laid-back channel out l e r =
+      × (leftBy float o s c channel out ≡ frontFilled (valuesOf (λ k. getD xs k (none float)) l) out)
+  filled-back channel out l e r =
       let n : countOf float o s c channel (length out) ≡ gives (numbers l) = count-by float o s c channel (length out) l e r in
       (n, copied-back channel out ∙ rw (n, e))
 
@@ -156,7 +156,7 @@ module _ (float : Bool) (o : Order) (s : List ℕ) (c : Cursor) (code : ℕ) (ti
       let value : ℕ → Number float = λ k. getD xs k (none float) in
       let ys = pairsOf value (l .iq) (l .first) (l .step) (l .count) in
       let n : length ys ≡ 2 * l .count = length-pairs value (l .iq) (l .first) (l .step) (l .count) in
-      let b = rw q at (laid-back channel out l e (rw q r)) in (
+      let b = rw q at (filled-back channel out l e (rw q r)) in (
         b .0,
         λ j i.
             let v = pair-at value (l .iq) (l .first) (l .step) (none float) (l .count) j i in (

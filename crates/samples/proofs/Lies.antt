@@ -11,16 +11,16 @@ use borrow.Author.Tests.{le-leb, ltb-true}
 use Rattle.num.specs.Answer.{gives, refuses}
 use Rattle.num.specs.Choice.{pick}
 use Rattle.num.proofs.Tests.{each-all}
-use Rattle.body.specs.declared.data.Data.{Data}
+use Rattle.body.specs.declared.sampled.Data.{Data}
 use Rattle.copy.specs.Samples.{inside, placeOf}
 use Rattle.cover.proofs.Theorems.{group-says}
 use Rattle.state.specs.declared.State.{State}
 use Rattle.samples.specs.Inner.Plan.{wide, lies}
 use Rattle.samples.specs.Layout.{alone, paired, real, member, oneOf, layout}
 use Rattle.samples.specs.declared.Layout.{Layout}
-use Rattle.body.specs.declared.data.Shape.the-variants.{ShortPairs, ShortReals, ShortGroup, FloatPairs, FloatReals, FloatGroup}
-use Rattle.body.specs.declared.data.Shaped.{Shaped}
-use Rattle.body.specs.declared.data.Shaped.the-variants.{Samples, NoSamples}
+use Rattle.body.specs.declared.sampled.Shape.the-variants.{ShortPairs, ShortReals, ShortGroup, FloatPairs, FloatReals, FloatGroup}
+use Rattle.body.specs.declared.sampled.Shaped.{Shaped}
+use Rattle.body.specs.declared.sampled.Shaped.the-variants.{Samples, NoSamples}
 use Rattle.samples.proofs.Ready.{IsReady, Covered}
 
 inside-of : (w size place samples : ℕ) → size ≡ samples * (2 * w) → place < samples → inside w size place ≡ true

@@ -12,7 +12,7 @@ use Rattle.frame.specs.declared.Ahead.{Ahead}
 use Rattle.frame.specs.declared.Ahead.the-variants.{End, Stretch, Cut, Chunk}
 use Rattle.body.specs.Kind.{kindOf}
 use Rattle.body.specs.Table.{shaped}
-use Rattle.body.specs.declared.data.Data.{Data}
+use Rattle.body.specs.declared.sampled.Data.{Data}
 use Rattle.effect.specs.Says.{Says, ok, unknown, bad, waits, ready}
 use Rattle.reader.specs.Item.{chunk}
 use Rattle.reader.specs.Step.{stepBy, stepOf}

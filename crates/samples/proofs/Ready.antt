@@ -11,16 +11,16 @@ use borrow.Author.Tests.{leb-true, eqb-true}
 use Rattle.num.specs.Answer.{Answer, gives, refuses}
 use Rattle.num.specs.Choice.{pick, both}
 use Rattle.num.specs.declared.Order.{Order}
-use Rattle.body.specs.Samples.{timed, sampleBytes, dataOf}
+use Rattle.body.specs.Samples.{timedSamples, sampleBytes, dataOf}
 use Rattle.body.specs.Table.{Row, sets, marks, leaves, samples, row, shapedBy, shaped}
 use Rattle.body.specs.Table as Table
-use Rattle.body.specs.declared.data.Data.{Data}
-use Rattle.body.specs.declared.data.Shape.{Shape}
-use Rattle.body.specs.declared.data.Shape.the-variants.{ShortPairs, ShortReals, ShortGroup, FloatPairs, FloatReals, FloatGroup}
-use Rattle.body.specs.declared.data.Shaped.{Shaped}
-use Rattle.body.specs.declared.data.Shaped.the-variants.{Samples, NoSamples}
-use Rattle.body.specs.declared.group.GroupPacking.{GroupPacking}
-use Rattle.body.specs.declared.kind.Kind.{Kind}
+use Rattle.body.specs.declared.sampled.Data.{Data}
+use Rattle.body.specs.declared.sampled.Shape.{Shape}
+use Rattle.body.specs.declared.sampled.Shape.the-variants.{ShortPairs, ShortReals, ShortGroup, FloatPairs, FloatReals, FloatGroup}
+use Rattle.body.specs.declared.sampled.Shaped.{Shaped}
+use Rattle.body.specs.declared.sampled.Shaped.the-variants.{Samples, NoSamples}
+use Rattle.body.specs.declared.groups.GroupPacking.{GroupPacking}
+use Rattle.body.specs.declared.kinds.Kind.{Kind}
 use Rattle.cover.specs.Cover.{groupCovers}
 use Rattle.effect.specs.Says.{Says, ok, unknown, bad, waits, ready, judged}
 use Rattle.effect.specs.Ready.{dataSays, covering, ofGroup, isReady, inGroup, noState}
@@ -57,7 +57,7 @@ timed-by w body true true x d ea eb e q =
 timed-by w body true false x d ea eb e q = let z : _≡_ {A = ℕ} 0 1 = cc in absurd (omega arith)
 timed-by w body false b x d ea eb e q = let z : _≡_ {A = ℕ} 0 1 = cc in absurd (omega arith)
 
-timed-size : (w : ℕ) (o : Order) (body : List ℕ) (d : Data) → timed w o body ≡ gives d → length body ≡ 8 + d .samples * w
+timed-size : (w : ℕ) (o : Order) (body : List ℕ) (d : Data) → timedSamples w o body ≡ gives d → length body ≡ 8 + d .samples * w
 timed-size w o body d e = timed-by w body (leb 8 (length body)) (eqb ((length body - 8) % w) 0) _ d refl refl e refl
 
 -- a ready chunk was given its data

@@ -9,7 +9,7 @@ use Rattle.num.specs.Choice.{pick}
 use Rattle.num.specs.declared.Order.{Order}
 use Rattle.body.specs.Kind.{kindOf}
 use Rattle.body.specs.Table.{shaped}
-use Rattle.copy.specs.Samples.{laid}
+use Rattle.copy.specs.Samples.{frontFilled}
 use Rattle.effect.specs.Says.{Says, ok, unknown, bad, waits, ready}
 use Rattle.reader.specs.Item.{Item, ofChunk}
 use Rattle.reader.specs.Step.{Step, stepOf}
@@ -64,6 +64,6 @@ samplesAt o s c = samplesBy (stepOf o s c .item) (drop (c .place) s)
 
 -- what the slice holds afterwards: the numbers at its front where they were copied, else what it held
 abbrev pub filled : {A : Type 0} → Answer ℕ → Answer Layout → (ℕ → A) → List A → List A
-filled (gives n) (gives l) value out = laid (valuesOf value l) out
+filled (gives n) (gives l) value out = frontFilled (valuesOf value l) out
 filled (gives n) (refuses k) value out = out
 filled (refuses k) l value out = out

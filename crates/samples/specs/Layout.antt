@@ -7,11 +7,11 @@ use lib.ListN.{getD}
 use Rattle.num.specs.Answer.{Answer, gives, refuses}
 use Rattle.num.specs.Choice.{pick}
 use Rattle.body.specs.Groups.{isNumber}
-use Rattle.body.specs.declared.data.Data.{Data}
-use Rattle.body.specs.declared.data.Shape.{Shape}
-use Rattle.body.specs.declared.data.Shape.the-variants.{ShortPairs, ShortReals, ShortGroup, FloatPairs, FloatReals, FloatGroup}
-use Rattle.body.specs.declared.data.Shaped.{Shaped}
-use Rattle.body.specs.declared.data.Shaped.the-variants.{Samples, NoSamples}
+use Rattle.body.specs.declared.sampled.Data.{Data}
+use Rattle.body.specs.declared.sampled.Shape.{Shape}
+use Rattle.body.specs.declared.sampled.Shape.the-variants.{ShortPairs, ShortReals, ShortGroup, FloatPairs, FloatReals, FloatGroup}
+use Rattle.body.specs.declared.sampled.Shaped.{Shaped}
+use Rattle.body.specs.declared.sampled.Shaped.the-variants.{Samples, NoSamples}
 use Rattle.copy.specs.Samples.{pairsOf, realsOf}
 use Rattle.state.specs.declared.State.{State}
 use Rattle.samples.specs.declared.Layout.{Layout}

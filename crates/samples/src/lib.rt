@@ -10,11 +10,10 @@ ghost use Rattle.effect.specs.Effect.{effect};
 ghost use Rattle.reader.specs.Step.{before};
 ghost use Rattle.samples.specs.Inner.Plan.{laidSaid, plannedSaid, sizedBy, layoutOf, Sound};
 ghost use Rattle.samples.specs.Copy.{layoutAt};
-use body::data;
-use body::data::Data;
-use body::data::Shape;
-use body::data::Shaped;
-use effect::ask::Asked;
+use body::Data;
+use body::Shape;
+use body::Shaped;
+use effect::Asked;
 use frame::Ahead;
 use num::Order;
 use reader::Cursor;
@@ -181,9 +180,9 @@ fn in_chunk(
         return Laid::NotReady;
     }
     let state = cursor.state;
-    let kind = body::kind::kind_of(code);
-    match effect::ask::ready_data(order, kind, body, state) {
-        Asked::Ready(d) => laid_out(float, data::shape_of(kind), channel, state, d),
+    let kind = body::kind_of(code);
+    match effect::ready_data(order, kind, body, state) {
+        Asked::Ready(d) => laid_out(float, body::shape_of(kind), channel, state, d),
         Asked::NotReady => Laid::NotReady,
     }
 }
@@ -212,10 +211,10 @@ fn plan(order: Order, s: &[u8], cursor: Cursor, channel: usize, float: bool) -> 
     )
 }
 
-fn sized(laid: Laid, size: usize) -> Planned
-    ensures { λ r. ⌜ r ≡ sizedBy laid size ⌝ }
+fn sized(frontFilled: Laid, size: usize) -> Planned
+    ensures { λ r. ⌜ r ≡ sizedBy frontFilled size ⌝ }
 {
-    match laid {
+    match frontFilled {
         Laid::At(layout) => Planned::Go(layout, size),
         Laid::NoChannel => Planned::NoChannel,
         Laid::NotReady => Planned::NotReady,

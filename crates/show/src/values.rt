@@ -1,11 +1,11 @@
 // The lines of a dump for the values of a state that are present.
 use crate::put;
-use body::group::GroupGains;
-use body::group::GroupHertz;
-use body::group::GroupPacking;
-use body::value::BandHeld;
-use body::value::Held;
-use body::value::LevelHeld;
+use body::BandHeld;
+use body::GroupGains;
+use body::GroupHertz;
+use body::GroupPacking;
+use body::Held;
+use body::LevelHeld;
 use listing::Label;
 use listing::words::decimal;
 use listing::words::hex_word;
@@ -69,7 +69,7 @@ fn level(which: Label, value: LevelHeld) {
 
 // A float's pattern. No state that is shown holds a NaN.
 fn pattern(x: f32) {
-    put(hex_word(body::level::pattern(x)));
+    put(hex_word(body::pattern(x)));
 }
 
 fn wide(x: u32) -> usize {

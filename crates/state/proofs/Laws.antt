@@ -15,8 +15,8 @@ use Rattle.body.specs.Lists.{upto, sixteen}
 use Rattle.body.specs.Table.{Slot, packing, rate, band, groupBand, centre, fullScale, totalGain, floatScale, group, frequencies, gains, Value, none}
 use Rattle.state.specs.declared.Values.{Values}
 use Rattle.state.specs.declared.State.{State}
-use Rattle.state.specs.State.{emptied, putIn, withValues}
-use Rattle.state.specs.Good.{zeroOrOne, anyNumber, scale, offset, nothing, goodNumber, goodBand, goodLevel, goodFrom, goodList, goodHead, goodFrequencies, goodGains, goodIn, goodState, goodValues, goodLists}
+use Rattle.state.specs.State.{emptied, setIn, withValues}
+use Rattle.state.specs.Good.{zeroOrOne, anyNumber, isScale, isOffset, isNoOffset, goodNumber, goodBand, goodLevel, goodFrom, goodList, goodHead, goodFrequencies, goodGains, goodIn, goodState, goodValues, goodLists}
 
 -- ---- the parts of a good state
 
@@ -28,9 +28,9 @@ pub record Parts (v : Values) : Type 0 where
   pub centre : goodNumber anyNumber (v .centre) ≡ true
   pub full-scale : goodLevel isFinite (v .«full_scale») ≡ true
   pub total-gain : goodLevel isFinite (v .«total_gain») ≡ true
-  pub float-scale : goodLevel scale (v .«float_scale») ≡ true
+  pub float-scale : goodLevel isScale (v .«float_scale») ≡ true
   pub head : goodHead (v .group) ≡ true
-  pub offsets : goodList offset nothing (v .group .n) (v .group .offsets) ≡ true
+  pub offsets : goodList isOffset isNoOffset (v .group .n) (v .group .offsets) ≡ true
   pub frequencies : goodFrequencies (v .frequencies) ≡ true
   pub gains : goodGains (v .gains) ≡ true
 
@@ -65,22 +65,22 @@ good-parts s g =
 
 -- ---- a slot put anew: its test is true as the old one's was, so nothing else of the state's test changes
 
-pub put-good : (x : Slot) (a : Value x) (s : State) → goodState s ≡ true → goodIn x a ≡ true → goodState (withValues s (putIn x a (s .values))) ≡ true
+pub set-good : (x : Slot) (a : Value x) (s : State) → goodState s ≡ true → goodIn x a ≡ true → goodState (withValues s (setIn x a (s .values))) ≡ true
 unfolding goodValues goodLists
-put-good packing a s g h = rw (h ∙ sym (good-parts s g .packing)) g
-put-good rate a s g h = rw (h ∙ sym (good-parts s g .rate)) g
-put-good band a s g h = rw (h ∙ sym (good-parts s g .band)) g
-put-good groupBand a s g h = rw (h ∙ sym (good-parts s g .group-band)) g
-put-good centre a s g h = rw (h ∙ sym (good-parts s g .centre)) g
-put-good fullScale a s g h = rw (h ∙ sym (good-parts s g .full-scale)) g
-put-good totalGain a s g h = rw (h ∙ sym (good-parts s g .total-gain)) g
-put-good floatScale a s g h = rw (h ∙ sym (good-parts s g .float-scale)) g
-put-good group a s g h =
+set-good packing a s g h = rw (h ∙ sym (good-parts s g .packing)) g
+set-good rate a s g h = rw (h ∙ sym (good-parts s g .rate)) g
+set-good band a s g h = rw (h ∙ sym (good-parts s g .band)) g
+set-good groupBand a s g h = rw (h ∙ sym (good-parts s g .group-band)) g
+set-good centre a s g h = rw (h ∙ sym (good-parts s g .centre)) g
+set-good fullScale a s g h = rw (h ∙ sym (good-parts s g .full-scale)) g
+set-good totalGain a s g h = rw (h ∙ sym (good-parts s g .total-gain)) g
+set-good floatScale a s g h = rw (h ∙ sym (good-parts s g .float-scale)) g
+set-good group a s g h =
     let p = good-parts s g in
-    let q = both-true (goodHead a) (goodList offset nothing (a .n) (a .offsets)) h in
+    let q = both-true (goodHead a) (goodList isOffset isNoOffset (a .n) (a .offsets)) h in
     rw (q .0 ∙ sym (p .head), q .1 ∙ sym (p .offsets)) g
-put-good frequencies a s g h = rw (h ∙ sym (good-parts s g .frequencies)) g
-put-good gains a s g h = rw (h ∙ sym (good-parts s g .gains)) g
+set-good frequencies a s g h = rw (h ∙ sym (good-parts s g .frequencies)) g
+set-good gains a s g h = rw (h ∙ sym (good-parts s g .gains)) g
 
 -- ---- absent values
 

@@ -11,7 +11,7 @@ use lib.IntN.{ℤ, pos}
 use lib.ListN.{length, drop, getD}
 use Rattle.num.specs.Choice.{pick, both}
 use Rattle.body.specs.Levels.{isFinite}
-use Rattle.state.specs.Good.{isZero, isPlusZero, anyNumber, offset, nothing, goodFrom}
+use Rattle.state.specs.Good.{isZero, isPlusZero, anyNumber, isOffset, isNoOffset, goodFrom}
 use Rattle.state.proofs.Tests.{from-next}
 
 abbrev pub larger : ℕ → ℕ → ℕ
@@ -75,10 +75,10 @@ module _ (p i : ℕ) (h : p ≤ i) where
 
 -- ---- one place more, for each list
 
-offset-split : (x : ℕ) (t b : Bool) → eqb x 0 ≡ b → pick t (offset x) b ≡ offset x && pick t true b
-offset-split x true b e = sym (and-true (offset x))
+offset-split : (x : ℕ) (t b : Bool) → eqb x 0 ≡ b → pick t (isOffset x) b ≡ isOffset x && pick t true b
+offset-split x true b e = sym (and-true (isOffset x))
 offset-split x false true e = let z = eqb-true x 0 e in rw (lt-ltb x (2 ^ 31) (omega arith))
-offset-split x false false e = sym (and-false (offset x))
+offset-split x false false e = sym (and-false (isOffset x))
 
 gain-split : (x : Float) (t : Bool) → pick t (isFinite x) (isPlusZero x) ≡ isFinite x && pick t true (isPlusZero x)
 gain-split nan true = refl
@@ -89,14 +89,14 @@ gain-split (fin s m e) true = refl
 gain-split (fin s m e) false = refl
 
 module _ (n i p : ℕ) (r : p ≤ i) where
-  pub offsets-next : (l : List ℕ) (g : ℕ) → i < length l → goodFrom offset nothing n 0 l ≡ both (ltb g (2 ^ 31) && leb p n) (goodFrom offset nothing n i (drop i l)) →
-      goodFrom offset nothing n 0 l
-      ≡ both (ltb (larger g (getD l i 0)) (2 ^ 31) && leb (larger p (pick (not (eqb (getD l i 0) 0)) (i + 1) 0)) n) (goodFrom offset nothing n (i + 1) (drop (i + 1) l))
+  pub offsets-next : (l : List ℕ) (g : ℕ) → i < length l → goodFrom isOffset isNoOffset n 0 l ≡ both (ltb g (2 ^ 31) && leb p n) (goodFrom isOffset isNoOffset n i (drop i l)) →
+      goodFrom isOffset isNoOffset n 0 l
+      ≡ both (ltb (larger g (getD l i 0)) (2 ^ 31) && leb (larger p (pick (not (eqb (getD l i 0) 0)) (i + 1) 0)) n) (goodFrom isOffset isNoOffset n (i + 1) (drop (i + 1) l))
   offsets-next l g h e =
       let x = getD l i 0 in
-      let b = offset x && pick (ltb i n) true (nothing x) in
+      let b = isOffset x && pick (ltb i n) true (isNoOffset x) in
       rw (larger-below g x (2 ^ 31), reach-next p i r n (eqb x 0), and-across (ltb g (2 ^ 31)) (ltb x (2 ^ 31)) (leb p n) (pick (ltb i n) true (eqb x 0)))
-      (from-next offset nothing n l 0 i (ltb g (2 ^ 31) && leb p n) b h e (sym (offset-split x (ltb i n) (nothing x) refl)))
+      (from-next isOffset isNoOffset n l 0 i (ltb g (2 ^ 31) && leb p n) b h e (sym (offset-split x (ltb i n) (isNoOffset x) refl)))
 
   pub hertz-next : (l : List ℤ) → i < length l → goodFrom anyNumber isZero n 0 l ≡ both (leb p n) (goodFrom anyNumber isZero n i (drop i l)) →
       goodFrom anyNumber isZero n 0 l ≡ both (leb (larger p (pick (not (isZero (getD l i (pos 0)))) (i + 1) 0)) n) (goodFrom anyNumber isZero n (i + 1) (drop (i + 1) l))

@@ -4,7 +4,7 @@ use mathlib.Core.Path.{_≡_, refl, ap, _∙_}
 use mathlib.Core.Bool.{Bool, true, false}
 use Rattle.num.specs.Choice.{pick}
 use Rattle.body.specs.Table.{Slot, packing, rate, band, groupBand, centre, fullScale, totalGain, floatScale, group, frequencies, gains, Value, none, isSlot}
-use Rattle.state.specs.State.{valueIn, putIn, built}
+use Rattle.state.specs.State.{valueIn, setIn, built}
 use Rattle.state.specs.declared.Values.{Values}
 
 pub in-built : (f : (x : Slot) → Value x) (x : Slot) → valueIn x (built f) ≡ f x
@@ -29,7 +29,7 @@ abbrev mixed : (Slot → Bool) → Values → Values → (x : Slot) → Value x
 mixed test w v x = pick (test x) (valueIn x w) (valueIn x v)
 
 -- with a slot put anew: that slot from the same put into no values at all, the others as they were
-put-mixed : (y : Slot) (a : Value y) (v : Values) → putIn y a v ≡ built (mixed (isSlot y) (putIn y a (built none)) v)
+put-mixed : (y : Slot) (a : Value y) (v : Values) → setIn y a v ≡ built (mixed (isSlot y) (setIn y a (built none)) v)
 put-mixed packing a v = refl
 put-mixed rate a v = refl
 put-mixed band a v = refl
@@ -42,13 +42,13 @@ put-mixed group a v = refl
 put-mixed frequencies a v = refl
 put-mixed gains a v = refl
 
-in-put : (y : Slot) (a : Value y) (v : Values) (x : Slot) (b : Bool) → isSlot y x ≡ b → valueIn x (putIn y a v) ≡ pick b (valueIn x (putIn y a (built none))) (valueIn x v)
-in-put y a v x b e = ap (valueIn x) (put-mixed y a v) ∙ in-built (mixed (isSlot y) (putIn y a (built none)) v) x ∙ rw e
+in-put : (y : Slot) (a : Value y) (v : Values) (x : Slot) (b : Bool) → isSlot y x ≡ b → valueIn x (setIn y a v) ≡ pick b (valueIn x (setIn y a (built none))) (valueIn x v)
+in-put y a v x b e = ap (valueIn x) (put-mixed y a v) ∙ in-built (mixed (isSlot y) (setIn y a (built none)) v) x ∙ rw e
 
 -- every other slot is left
-pub put-other : (y : Slot) (a : Value y) (v : Values) (x : Slot) → isSlot y x ≡ false → valueIn x (putIn y a v) ≡ valueIn x v
-put-other y a v x e = in-put y a v x false e
+pub set-other : (y : Slot) (a : Value y) (v : Values) (x : Slot) → isSlot y x ≡ false → valueIn x (setIn y a v) ≡ valueIn x v
+set-other y a v x e = in-put y a v x false e
 
 -- and the slot itself does not depend on what was there
-pub put-own : (y : Slot) (a : Value y) (v w : Values) (x : Slot) → isSlot y x ≡ true → valueIn x (putIn y a v) ≡ valueIn x (putIn y a w)
-put-own y a v w x e = in-put y a v x true e ∙ rw (in-put y a w x true e)
+pub set-own : (y : Slot) (a : Value y) (v w : Values) (x : Slot) → isSlot y x ≡ true → valueIn x (setIn y a v) ≡ valueIn x (setIn y a w)
+set-own y a v w x e = in-put y a v x true e ∙ rw (in-put y a w x true e)

@@ -10,12 +10,12 @@ use lib.Signed.{leZ}
 use Rattle.num.specs.Choice.{pick, both, either}
 use Rattle.body.specs.Levels.{isFinite}
 use Rattle.body.specs.Table.{Slot, packing, rate, band, groupBand, centre, fullScale, totalGain, floatScale, group, frequencies, gains, Value}
-use Rattle.body.specs.declared.group.GroupPacking.{GroupPacking}
-use Rattle.body.specs.declared.group.GroupHertz.{GroupHertz}
-use Rattle.body.specs.declared.group.GroupGains.{GroupGains}
-use Rattle.body.specs.declared.value.Held.{Held}
-use Rattle.body.specs.declared.value.BandHeld.{BandHeld}
-use Rattle.body.specs.declared.value.LevelHeld.{LevelHeld}
+use Rattle.body.specs.declared.groups.GroupPacking.{GroupPacking}
+use Rattle.body.specs.declared.groups.GroupHertz.{GroupHertz}
+use Rattle.body.specs.declared.groups.GroupGains.{GroupGains}
+use Rattle.body.specs.declared.values.Held.{Held}
+use Rattle.body.specs.declared.values.BandHeld.{BandHeld}
+use Rattle.body.specs.declared.values.LevelHeld.{LevelHeld}
 use Rattle.state.specs.declared.Values.{Values}
 use Rattle.state.specs.declared.State.{State}
 
@@ -50,8 +50,8 @@ zeroOrOne z = both (leZ (pos 0) z) (leZ z (pos 1))
 abbrev pub anyNumber : ℤ → Bool
 anyNumber z = true
 
-abbrev pub scale : Float → Bool
-scale x = both (isFinite x) (lt (ofBits binary32 0) x)
+abbrev pub isScale : Float → Bool
+isScale x = both (isFinite x) (lt (ofBits binary32 0) x)
 
 -- from place i of a list on, a place below n is used and holds what is allowed, and the others hold what stands for nothing
 unfoldable pub goodFrom : {A : Type 0} → (A → Bool) → (A → Bool) → ℕ → ℕ → List A → Bool
@@ -63,11 +63,11 @@ abbrev pub goodList : {A : Type 0} → (A → Bool) → (A → Bool) → ℕ →
 goodList ok none n l = both (leb n 16) (goodFrom ok none n 0 l)
 
 -- an offset is an int32 of at least 0
-abbrev pub offset : ℕ → Bool
-offset x = ltb x (2 ^ 31)
+abbrev pub isOffset : ℕ → Bool
+isOffset x = ltb x (2 ^ 31)
 
-abbrev pub nothing : ℕ → Bool
-nothing x = eqb x 0
+abbrev pub isNoOffset : ℕ → Bool
+isNoOffset x = eqb x 0
 
 -- where there are channels, the increment is 1 or n; where there are none, it is 0 and the packing too
 abbrev pub goodHead : GroupPacking → Bool
@@ -77,7 +77,7 @@ goodHead g =
     (either (eqb (g .increment) 1) (eqb (g .increment) (g .n)))
 
 abbrev pub goodGroup : GroupPacking → Bool
-goodGroup g = both (goodHead g) (goodList offset nothing (g .n) (g .offsets))
+goodGroup g = both (goodHead g) (goodList isOffset isNoOffset (g .n) (g .offsets))
 
 abbrev pub goodFrequencies : GroupHertz → Bool
 goodFrequencies g = goodList anyNumber isZero (g .n) (g .values)
@@ -94,7 +94,7 @@ goodIn groupBand h = goodNumber (leZ (pos 0)) h
 goodIn centre h = goodNumber anyNumber h
 goodIn fullScale x = goodLevel isFinite x
 goodIn totalGain x = goodLevel isFinite x
-goodIn floatScale x = goodLevel scale x
+goodIn floatScale x = goodLevel isScale x
 goodIn group g = goodGroup g
 goodIn frequencies g = goodFrequencies g
 goodIn gains g = goodGains g
@@ -115,7 +115,7 @@ goodValues v =
 -- the three lists are good
 unfoldable pub goodLists : Values → Bool
 goodLists v =
-    goodList offset nothing (v .group .n) (v .group .offsets)
+    goodList isOffset isNoOffset (v .group .n) (v .group .offsets)
     && goodIn frequencies (v .frequencies)
     && goodIn gains (v .gains)
 

@@ -4,14 +4,14 @@ ghost use lib.Signed.{leZ};
 ghost use lib.Dec.{ltb, leb};
 ghost use Rattle.num.specs.Choice.{pick, both};
 ghost use Rattle.body.specs.Levels.{isFinite};
-ghost use Rattle.state.specs.Good.{isZero, isPlusZero, zeroOrOne, anyNumber, scale, offset, nothing, goodNumber, goodBand, goodLevel, goodFrom, goodHead, goodValues, goodLists};
+ghost use Rattle.state.specs.Good.{isZero, isPlusZero, zeroOrOne, anyNumber, isScale, isOffset, isNoOffset, goodNumber, goodBand, goodLevel, goodFrom, goodHead, goodValues, goodLists};
 use crate::Values;
-use body::group::GroupGains;
-use body::group::GroupHertz;
-use body::group::GroupPacking;
-use body::value::BandHeld;
-use body::value::Held;
-use body::value::LevelHeld;
+use body::BandHeld;
+use body::GroupGains;
+use body::GroupHertz;
+use body::GroupPacking;
+use body::Held;
+use body::LevelHeld;
 
 // a where the test holds, b where it does not.
 fn chosen(test: bool, a: bool, b: bool) -> bool
@@ -95,7 +95,7 @@ fn good_level(x: LevelHeld) -> bool
 
 // Present, finite and above 0.
 fn good_scale(x: LevelHeld) -> bool
-    ensures { λ r. ⌜ r ≡ goodLevel scale x ⌝ }
+    ensures { λ r. ⌜ r ≡ goodLevel isScale x ⌝ }
 {
     chosen(
         x.present,
@@ -129,7 +129,7 @@ pub struct Listed {
 // int32, and a gain is finite. One loop goes over the three lists with no early way out, so that several places are tested at a
 // time. It notes the largest offset, 1 where a gain is endless, and in a, b and c how far each list reaches.
 fn places(group: GroupPacking, frequencies: GroupHertz, gains: GroupGains) -> Listed
-    ensures { λ r. ⌜ (r .offsets ≡ goodFrom offset nothing (group .n) 0 (group .offsets)) × (r .hertz ≡ goodFrom anyNumber isZero (frequencies .n) 0 (frequencies .values)) × (r .gains ≡ goodFrom isFinite isPlusZero (gains .n) 0 (gains .values)) ⌝ }
+    ensures { λ r. ⌜ (r .offsets ≡ goodFrom isOffset isNoOffset (group .n) 0 (group .offsets)) × (r .hertz ≡ goodFrom anyNumber isZero (frequencies .n) 0 (frequencies .values)) × (r .gains ≡ goodFrom isFinite isPlusZero (gains .n) 0 (gains .values)) ⌝ }
 {
     let offsets = group.offsets;
     let hertz = frequencies.values;

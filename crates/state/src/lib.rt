@@ -2,13 +2,12 @@
 ghost use mathlib.Core.Path.{_≡_};
 ghost use Rattle.body.specs.Table.{none};
 ghost use Rattle.state.specs.State.{built, emptied, withValues, withMark};
-use body::group::GroupGains;
-use body::group::GroupHertz;
-use body::group::GroupPacking;
-use body::value;
-use body::value::BandHeld;
-use body::value::Held;
-use body::value::LevelHeld;
+use body::BandHeld;
+use body::GroupGains;
+use body::GroupHertz;
+use body::GroupPacking;
+use body::Held;
+use body::LevelHeld;
 
 pub mod good;
 
@@ -113,17 +112,17 @@ impl Values {
         ensures { λ r. ⌜ r ≡ built none ⌝ }
     {
         Values {
-            packing: value::no_number(),
-            rate: value::no_number(),
-            band: value::no_band(),
-            group_band: value::no_number(),
-            centre: value::no_number(),
-            full_scale: value::no_level(),
-            total_gain: value::no_level(),
-            float_scale: value::no_level(),
-            group: body::group::no_packing(),
-            frequencies: body::group::no_hertz(),
-            gains: body::group::no_gains(),
+            packing: body::no_number(),
+            rate: body::no_number(),
+            band: body::no_band(),
+            group_band: body::no_number(),
+            centre: body::no_number(),
+            full_scale: body::no_level(),
+            total_gain: body::no_level(),
+            float_scale: body::no_level(),
+            group: body::no_packing(),
+            frequencies: body::no_hertz(),
+            gains: body::no_gains(),
         }
     }
 }

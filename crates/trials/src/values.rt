@@ -3,10 +3,10 @@
 use crate::writes::Run;
 use crate::writes::body;
 use crate::writes::told;
-use body::fault::Checked;
-use body::kind::Kind;
-use body::level::LevelRead;
-use body::plain::TextRead;
+use body::Checked;
+use body::Kind;
+use body::LevelRead;
+use body::TextRead;
 use num::Order;
 use reader::Cursor;
 use reader::Item;
@@ -57,8 +57,8 @@ fn again(from: Order, to: Order, s: &[u8], item: Item, out: &mut [u8; 2048], run
 }
 
 fn chunk(from: Order, to: Order, code: u32, bytes: &[u8], out: &mut [u8], run: Run) -> Run {
-    let kind = body::kind::kind_of(code);
-    match body::verdict::check(from, kind, bytes) {
+    let kind = body::kind_of(code);
+    match body::check(from, kind, bytes) {
         Checked::Malformed(_) => run,
         Checked::Good => good(from, to, kind, bytes, out, run),
     }
@@ -98,22 +98,22 @@ fn plain(
     let a = num::i64_at(from, bytes, 0);
     let b = num::i64_at(from, bytes, 8);
     match kind {
-        Kind::SIQP => typed::number::siqp(to, x, out, place),
-        Kind::SOFH => typed::number::sofh(to, x, out, place),
-        Kind::SR => typed::number::sr(to, a, out, place),
-        Kind::BW => typed::number::bw(to, a, out, place),
-        Kind::GCBW => typed::number::gcbw(to, a, out, place),
-        Kind::CF => typed::number::cf(to, a, out, place),
-        Kind::BWOF => typed::band::bwof(to, a, b, out, place),
-        Kind::EOFH => typed::empty::eofh(to, out, place),
-        Kind::IQDC => typed::empty::iqdc(to, out, place),
+        Kind::SIQP => typed::siqp(to, x, out, place),
+        Kind::SOFH => typed::sofh(to, x, out, place),
+        Kind::SR => typed::sr(to, a, out, place),
+        Kind::BW => typed::bw(to, a, out, place),
+        Kind::GCBW => typed::gcbw(to, a, out, place),
+        Kind::CF => typed::cf(to, a, out, place),
+        Kind::BWOF => typed::bwof(to, a, b, out, place),
+        Kind::EOFH => typed::eofh(to, out, place),
+        Kind::IQDC => typed::iqdc(to, out, place),
         _ => text(from, to, bytes, out, place),
     }
 }
 
 fn text(from: Order, to: Order, bytes: &[u8], out: &mut [u8], place: usize) -> Written {
-    match body::plain::text(from, bytes) {
-        TextRead::Is(n) => typed::plain::text(to, part(bytes, 4, n), out, place),
+    match body::text(from, bytes) {
+        TextRead::Is(n) => typed::text(to, part(bytes, 4, n), out, place),
         TextRead::Malformed(f) => Written::Malformed(f),
     }
 }
@@ -139,12 +139,12 @@ fn level(
     place: usize,
 ) -> Written {
     let read = match kind {
-        Kind::DBFS => body::level::dbfs(from, bytes),
-        Kind::DBTG => body::level::dbtg(from, bytes),
-        _ => body::level::ffs(from, bytes),
+        Kind::DBFS => body::dbfs(from, bytes),
+        Kind::DBTG => body::dbtg(from, bytes),
+        _ => body::ffs(from, bytes),
     };
     match read {
-        LevelRead::Is(l) => typed::level::level(to, l, out, place),
+        LevelRead::Is(l) => typed::level(to, l, out, place),
         LevelRead::Malformed(f) => Written::Malformed(f),
     }
 }
@@ -159,19 +159,19 @@ fn group(
 ) -> Written {
     match kind {
         Kind::GIQP => {
-            let read = body::group::giqp(from, bytes);
+            let read = body::giqp(from, bytes);
             let packing = read.packing;
-            typed::group::giqp(to, packing, out, place)
+            typed::giqp(to, packing, out, place)
         }
         Kind::GCF => {
-            let read = body::group::gcf(from, bytes);
+            let read = body::gcf(from, bytes);
             let hertz = read.hertz;
-            typed::group::gcf(to, hertz, out, place)
+            typed::gcf(to, hertz, out, place)
         }
         _ => {
-            let read = body::group::grg(from, bytes);
+            let read = body::grg(from, bytes);
             let gains = read.gains;
-            typed::group::grg(to, gains, out, place)
+            typed::grg(to, gains, out, place)
         }
     }
 }
@@ -213,9 +213,9 @@ fn put_shorts(
         return Written::BadSize;
     }
     match kind {
-        Kind::SSNC => writer::shorts::ssnc(to, time, &numbers[0..n], out, place),
-        Kind::SSNR => writer::shorts::ssnr(to, time, &numbers[0..n], out, place),
-        _ => writer::shorts::gsnc(to, time, &numbers[0..n], out, place),
+        Kind::SSNC => writer::ssnc(to, time, &numbers[0..n], out, place),
+        Kind::SSNR => writer::ssnr(to, time, &numbers[0..n], out, place),
+        _ => writer::gsnc(to, time, &numbers[0..n], out, place),
     }
 }
 
@@ -247,8 +247,8 @@ fn put_patterns(
         return Written::BadSize;
     }
     match kind {
-        Kind::SFNC => writer::patterns::sfnc(to, time, &numbers[0..n], out, place),
-        Kind::SFNR => writer::patterns::sfnr(to, time, &numbers[0..n], out, place),
-        _ => writer::patterns::gfnc(to, time, &numbers[0..n], out, place),
+        Kind::SFNC => writer::sfnc(to, time, &numbers[0..n], out, place),
+        Kind::SFNR => writer::sfnr(to, time, &numbers[0..n], out, place),
+        _ => writer::gfnc(to, time, &numbers[0..n], out, place),
     }
 }

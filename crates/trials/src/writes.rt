@@ -147,10 +147,7 @@ pub(crate) fn told(written: Written, run: Run) -> Run {
         },
         Written::PastEnd => stays(place, refused(digest, 2)),
         Written::BadSize => stays(place, refused(digest, 32)),
-        Written::Malformed(fault) => stays(
-            place,
-            refused(digest, body::fault::number_of(fault) as u64),
-        ),
+        Written::Malformed(fault) => stays(place, refused(digest, body::number_of(fault) as u64)),
         Written::NoRoom => stays(place, refused(digest, 31)),
     }
 }

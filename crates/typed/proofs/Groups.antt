@@ -24,10 +24,10 @@ use Rattle.num.proofs.Tests.{both-true, each-all, each-stop}
 use Rattle.body.specs.Groups.{listed, headOk, offsetAt, offsetsOk, packed, hertzAt, tuned, gainAt, gainsOk, amplified, giqp, gcf, grg}
 use Rattle.body.specs.Levels.{isFinite}
 use Rattle.body.specs.Lists.{upto, sixteen}
-use Rattle.body.specs.declared.group.GroupPacking.{GroupPacking}
-use Rattle.body.specs.declared.group.GroupHertz.{GroupHertz}
-use Rattle.body.specs.declared.group.GroupGains.{GroupGains}
-use Rattle.body.proofs.Groups.{listed-many, listed-whole, packed-head, packed-offsets, packed-good}
+use Rattle.body.specs.declared.groups.GroupPacking.{GroupPacking}
+use Rattle.body.specs.declared.groups.GroupHertz.{GroupHertz}
+use Rattle.body.specs.declared.groups.GroupGains.{GroupGains}
+use Rattle.body.proofs.GroupLaws.{listed-many, listed-whole, packed-head, packed-offsets, packed-good}
 use Rattle.body.proofs.Laws.{negative32, is-pattern}
 use Rattle.state.specs.Good.{isZero, isPlusZero, anyNumber, offset, nothing, goodFrom, goodHead, goodList, goodGroup, goodFrequencies, goodGains}
 use Rattle.state.proofs.Tests.{plus-zero-pattern}
@@ -35,7 +35,7 @@ use Rattle.lay.specs.Numbers.{int64}
 use Rattle.lay.specs.Runs.{runOf}
 use Rattle.lay.proofs.Values.{first-length}
 use Rattle.typed.specs.Bodies.{float32}
-use Rattle.typed.specs.Groups.{atMost, counted, packingBody, hertzBody, gainsBody}
+use Rattle.typed.specs.Groups.{atMost, countThen, packingBody, hertzBody, gainsBody}
 use Rattle.typed.proofs.Numbers.{number-at, value-at}
 
 -- ---- lists of sixteen
@@ -83,10 +83,10 @@ module _ {A : Type 0} (ok none : A → Bool) (d : A) (n : ℕ) where
 
 module _ {A : Type 0} (head value : ℕ) (o : Order) (n : ℕ) (rest : List ℕ) (f : ℕ → Answer A) (few : 1 ≤ n) (many : n ≤ 16) where
   -- the count is read back, and the values for that count
-  counted-back : 4 ≤ head → length (counted o n rest) ≡ head + value * n → listed head value o (counted o n rest) f ≡ f n
+  counted-back : 4 ≤ head → length (countThen o n rest) ≡ head + value * n → listed head value o (countThen o n rest) f ≡ f n
   counted-back h e =
       let t : atMost 17 n ≡ n = rw (le-ltb 17 n (omega arith)) in
-      sym (listed-whole head value o (counted o n rest) f n (sym (number-at o 4 (atMost 17 n) [] rest 0 refl (rw t (omega arith)) ∙ t)) (omega arith) few many e)
+      sym (listed-whole head value o (countThen o n rest) f n (sym (number-at o 4 (atMost 17 n) [] rest 0 refl (rw t (omega arith)) ∙ t)) (omega arith) few many e)
 
 -- ---- a count that is too large
 
@@ -95,10 +95,10 @@ at-most-many n true e h = refl
 at-most-many n false e h = let k = ltb-false 17 n e in omega arith
 
 module _ {A : Type 0} (head value : ℕ) (o : Order) (n : ℕ) (rest : List ℕ) (f : ℕ → Answer A) where
-  counted-many : 16 < n → head ≤ length (counted o n rest) → listed head value o (counted o n rest) f ≡ refuses 13
+  counted-many : 16 < n → head ≤ length (countThen o n rest) → listed head value o (countThen o n rest) f ≡ refuses 13
   counted-many h k =
       let t : atMost 17 n ≡ 17 = at-most-many n (ltb 17 n) refl h in
-      sym (listed-many head value o (counted o n rest) f 17 (sym (number-at o 4 (atMost 17 n) [] rest 0 refl (rw t (omega arith)) ∙ t)) k (omega arith))
+      sym (listed-many head value o (countThen o n rest) f 17 (sym (number-at o 4 (atMost 17 n) [] rest 0 refl (rw t (omega arith)) ∙ t)) k (omega arith))
 
 pub packing-many : (o : Order) (g : GroupPacking) → 16 < g .n → giqp o (packingBody o g) ≡ refuses 13
 unfolding packingBody
@@ -115,7 +115,7 @@ gains-many o g h = counted-many 4 4 o (g .n) _ _ h (simp (length-append, bytes-l
 -- ---- the size
 
 -- a count and n values of w bytes
-pub values-size : {A : Type 0} (o : Order) (w n : ℕ) (pattern : A → ℕ) (xs : List A) → n ≤ length xs → length (counted o n (runOf (λ x. bytesOf o w (pattern x)) (take n xs))) ≡ 4 + w * n
+pub values-size : {A : Type 0} (o : Order) (w n : ℕ) (pattern : A → ℕ) (xs : List A) → n ≤ length xs → length (countThen o n (runOf (λ x. bytesOf o w (pattern x)) (take n xs))) ≡ 4 + w * n
 values-size o w n pattern xs h =
     let l = runOf (λ x. bytesOf o w (pattern x)) (take n xs) in
     omega (arith, length-append (bytesOf o 4 (atMost 17 n)) l, bytes-length o 4 (atMost 17 n), first-length (λ x. bytesOf o w (pattern x)) w (λ x. bytes-length o w (pattern x)) xs n h, mul-comm w n)

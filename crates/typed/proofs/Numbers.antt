@@ -25,7 +25,7 @@ use Rattle.body.specs.Check as check
 use Rattle.body.specs.Levels as levels
 use Rattle.body.specs.Levels.{isFinite, dbfs, dbtg, ffs}
 use Rattle.body.specs.Numbers.{siqp, sofh, atLeast, cf, bwof}
-use Rattle.body.specs.declared.level.Level.the-variants.{FullScale, TotalGain, FloatFullScale}
+use Rattle.body.specs.declared.levels.Level.the-variants.{FullScale, TotalGain, FloatFullScale}
 use Rattle.lay.specs.Numbers.{int32, int64}
 use Rattle.lay.specs.Runs.{runOf}
 use Rattle.lay.proofs.Values.{first-length, run-at}

@@ -18,11 +18,11 @@ use Rattle.text.specs.Utf8.{isUtf8}
 use Rattle.body.specs.Kind.{codeOf, known, kindIn, kindOf}
 use Rattle.body.specs.Levels.{isFinite}
 use Rattle.body.specs.Verdict.{seen, verdict}
-use Rattle.body.specs.declared.group.GroupPacking.{GroupPacking}
-use Rattle.body.specs.declared.group.GroupHertz.{GroupHertz}
-use Rattle.body.specs.declared.group.GroupGains.{GroupGains}
-use Rattle.body.specs.declared.kind.Kind.{Kind}
-use Rattle.body.specs.declared.kind.Kind.the-variants.{GIQP, GCF, GRG, TEXT}
+use Rattle.body.specs.declared.groups.GroupPacking.{GroupPacking}
+use Rattle.body.specs.declared.groups.GroupHertz.{GroupHertz}
+use Rattle.body.specs.declared.groups.GroupGains.{GroupGains}
+use Rattle.body.specs.declared.kinds.Kind.{Kind}
+use Rattle.body.specs.declared.kinds.Kind.the-variants.{GIQP, GCF, GRG, TEXT}
 use Rattle.state.specs.Good.{isZero, isPlusZero, anyNumber, offset, nothing, goodFrom, goodHead, goodList, goodGroup, goodFrequencies, goodGains}
 use Rattle.writer.specs.Write.{mayWrite}
 use Rattle.typed.specs.Groups.{packingBody, hertzBody, gainsBody}

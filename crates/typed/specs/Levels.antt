@@ -2,9 +2,9 @@
 use Prim.Native.Nat.{ℕ}
 use lib.Ieee.{Float}
 use Rattle.body.specs.Kind.{codeOf}
-use Rattle.body.specs.declared.kind.Kind.the-variants.{DBFS, DBTG, FFS}
-use Rattle.body.specs.declared.level.Level.{Level}
-use Rattle.body.specs.declared.level.Level.the-variants.{FullScale, TotalGain, FloatFullScale}
+use Rattle.body.specs.declared.kinds.Kind.the-variants.{DBFS, DBTG, FFS}
+use Rattle.body.specs.declared.levels.Level.{Level}
+use Rattle.body.specs.declared.levels.Level.the-variants.{FullScale, TotalGain, FloatFullScale}
 
 abbrev pub levelCode : Level → ℕ
 levelCode (FullScale x) = codeOf DBFS

@@ -3,7 +3,7 @@ ghost use mathlib.Core.List.{_++_};
 ghost use mathlib.Core.Path.{_≡_};
 ghost use lib.ListN.{length};
 ghost use Rattle.body.specs.Kind.{codeOf};
-ghost use Rattle.body.specs.declared.kind.Kind.the-variants as K;
+ghost use Rattle.body.specs.declared.kinds.Kind.the-variants as K;
 ghost use Rattle.lay.specs.Numbers.{int64};
 ghost use Rattle.writer.specs.Write.{writeOf, writtenOut, writtenSaid};
 use num::Order;
@@ -16,6 +16,6 @@ pub fn bwof(order: Order, bandwidth: i64, offset: i64, out: &mut [u8], place: us
 {
     let both = [bandwidth, offset];
     let mut body = [0u8; 16];
-    lay::runs::longs(order, &both, &mut body, 0);
+    lay::longs(order, &both, &mut body, 0);
     writer::write(order, 0x4257_4F46, &body, out, place)
 }

@@ -3,7 +3,7 @@ ghost use mathlib.Core.Path.{_≡_};
 ghost use mathlib.Core.List.{[]};
 ghost use lib.ListN.{length};
 ghost use Rattle.body.specs.Kind.{codeOf};
-ghost use Rattle.body.specs.declared.kind.Kind.the-variants as K;
+ghost use Rattle.body.specs.declared.kinds.Kind.the-variants as K;
 ghost use Rattle.writer.specs.Write.{writeOf, writtenOut, writtenSaid};
 use num::Order;
 use writer::Written;

@@ -6,13 +6,13 @@ ghost use Rattle.num.specs.Choice.{pick};
 ghost use Rattle.lay.specs.Runs.{runOf};
 ghost use Rattle.lay.specs.Splice.{overlaid};
 ghost use Rattle.body.specs.Kind.{codeOf};
-ghost use Rattle.body.specs.declared.kind.Kind.the-variants as K;
+ghost use Rattle.body.specs.declared.kinds.Kind.the-variants as K;
 ghost use Rattle.writer.specs.Write.{writeOf, writtenOut, writtenSaid};
 ghost use Rattle.typed.specs.Bodies.{float32};
 ghost use Rattle.typed.specs.Groups.{atMost, packingBody, hertzBody, gainsBody};
-use body::group::GroupGains;
-use body::group::GroupHertz;
-use body::group::GroupPacking;
+use body::GroupGains;
+use body::GroupHertz;
+use body::GroupPacking;
 use num::Order;
 use writer::Written;
 
@@ -37,7 +37,7 @@ fn floats(order: Order, xs: [f32; 16], n: usize, out: &mut [u8], at: usize)
 {
     let mut c = 0;
     while c < n {
-        let word = num::u32_bytes(order, body::level::pattern(xs[c]));
+        let word = num::u32_bytes(order, body::pattern(xs[c]));
         lay::bytes(&word, out, at + 4 * c);
         c += 1;
     }
@@ -56,10 +56,10 @@ pub fn giqp(order: Order, packing: GroupPacking, out: &mut [u8], place: usize) -
         packing_of(packing.iq),
         packing.increment,
     ];
-    let given: &[u32] = &offsets;
+    let list: &[u32] = &offsets;
     let mut body = [0u8; 76];
-    lay::runs::words(order, &head, &mut body, 0);
-    lay::runs::words(order, &given[..used], &mut body, 12);
+    lay::words(order, &head, &mut body, 0);
+    lay::words(order, &list[..used], &mut body, 12);
     let all: &[u8] = &body;
     let end = 12 + 4 * used;
     writer::write(order, 0x4749_5150, &all[..end], out, place)
@@ -74,10 +74,10 @@ pub fn gcf(order: Order, hertz: GroupHertz, out: &mut [u8], place: usize) -> Wri
     let values = hertz.values;
     let used = at_most(16, n);
     let head = [at_most(17, n) as u32];
-    let given: &[i64] = &values;
+    let list: &[i64] = &values;
     let mut body = [0u8; 132];
-    lay::runs::words(order, &head, &mut body, 0);
-    lay::runs::longs(order, &given[..used], &mut body, 4);
+    lay::words(order, &head, &mut body, 0);
+    lay::longs(order, &list[..used], &mut body, 4);
     let all: &[u8] = &body;
     let end = 4 + 8 * used;
     writer::write(order, 0x4743_465F, &all[..end], out, place)
@@ -93,7 +93,7 @@ pub fn grg(order: Order, gains: GroupGains, out: &mut [u8], place: usize) -> Wri
     let used = at_most(16, n);
     let head = [at_most(17, n) as u32];
     let mut body = [0u8; 68];
-    lay::runs::words(order, &head, &mut body, 0);
+    lay::words(order, &head, &mut body, 0);
     floats(order, values, used, &mut body, 4);
     let all: &[u8] = &body;
     let end = 4 + 4 * used;

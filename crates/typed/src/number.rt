@@ -2,7 +2,7 @@
 ghost use mathlib.Core.Path.{_≡_};
 ghost use lib.ListN.{length};
 ghost use Rattle.body.specs.Kind.{codeOf};
-ghost use Rattle.body.specs.declared.kind.Kind.the-variants as K;
+ghost use Rattle.body.specs.declared.kinds.Kind.the-variants as K;
 ghost use Rattle.lay.specs.Numbers.{int32, int64};
 ghost use Rattle.writer.specs.Write.{writeOf, writtenOut, writtenSaid};
 use num::Order;

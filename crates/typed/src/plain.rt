@@ -2,7 +2,7 @@
 ghost use mathlib.Core.Path.{_≡_};
 ghost use lib.ListN.{length, replicate};
 ghost use Rattle.body.specs.Kind.{codeOf};
-ghost use Rattle.body.specs.declared.kind.Kind.the-variants as K;
+ghost use Rattle.body.specs.declared.kinds.Kind.the-variants as K;
 ghost use Rattle.writer.specs.Write.{writeOf, writtenOut, writtenSaid};
 ghost use Rattle.typed.specs.Texts.{textBody};
 use num::Order;
@@ -29,7 +29,7 @@ pub fn text(order: Order, bytes: &[u8], out: &mut [u8], place: usize) -> Written
     }
     let mut body = room();
     let head = [n as u32];
-    lay::runs::words(order, &head, &mut body, 0);
+    lay::words(order, &head, &mut body, 0);
     lay::bytes(bytes, &mut body, 4);
     let all: &[u8] = &body;
     let end = 4 + (n + 3) / 4 * 4;

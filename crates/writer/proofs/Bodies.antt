@@ -23,9 +23,9 @@ use Rattle.lay.proofs.Splice.{laid-on}
 use Rattle.lay.proofs.Values.{run-length}
 use Rattle.frame.specs.Place.{goodSize}
 use Rattle.frame.specs.Frames.{chunkBytes}
-use Rattle.body.specs.Samples.{timed}
+use Rattle.body.specs.Samples.{timedSamples}
 use Rattle.body.specs.Verdict.{seen}
-use Rattle.body.specs.declared.data.Data.{Data}
+use Rattle.body.specs.declared.sampled.Data.{Data}
 use Rattle.writer.specs.Inner.Data.{wholeSamples, BySize}
 use Rattle.writer.specs.Inner.Write.{headerBytes}
 use Rattle.writer.specs.Write.{writeBy, writeOf, laidBy, writtenOut, writtenSaid}
@@ -45,7 +45,7 @@ timed-by : (b : Bool) (x : Data) → seen (pick b (gives x) (refuses 11)) ≡ pi
 timed-by true x = refl
 timed-by false x = refl
 
-pub timed-sized : (unit : ℕ) (o : Order) (body : List ℕ) → seen (timed unit o body) ≡ wholeSamples unit (length body)
+pub timed-sized : (unit : ℕ) (o : Order) (body : List ℕ) → seen (timedSamples unit o body) ≡ wholeSamples unit (length body)
 timed-sized unit o body = timed-by (both (leb 8 (length body)) (eqb ((length body - 8) % unit) 0)) _
 
 -- a size above the limit is not good

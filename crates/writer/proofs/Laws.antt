@@ -22,8 +22,8 @@ use Rattle.frame.specs.Frames.{chunkBytes}
 use Rattle.body.specs.Fault.{checkedSaid}
 use Rattle.body.specs.Kind.{kindOf}
 use Rattle.body.specs.Verdict.{verdict}
-use Rattle.body.specs.declared.fault.Checked.{Checked}
-use Rattle.body.specs.declared.fault.Checked.the-variants as C
+use Rattle.body.specs.declared.faults.Checked.{Checked}
+use Rattle.body.specs.declared.faults.Checked.the-variants as C
 use Rattle.writer.specs.Inner.Write.{headerBytes, isGood}
 use Rattle.writer.specs.Write.{mayBy, writeBy, mayWrite, writeOf, laidBy, writtenOut, writtenSaid}
 use Rattle.writer.specs.declared.Written.{Written}

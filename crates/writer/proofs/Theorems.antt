@@ -23,7 +23,7 @@ use Rattle.frame.proofs.Laws.{starts-self, order-big, order-little}
 use Rattle.frame.proofs.Looks.{frame-by, other-made}
 use Rattle.frame.proofs.Frames.{chunk-shows, frames-nil, moves, first-sized}
 use Rattle.frame.proofs.Theorems.{bytes-whole}
-use Rattle.body.specs.declared.fault.Fault.the-variants as F
+use Rattle.body.specs.declared.faults.Fault.the-variants as F
 use Rattle.writer.specs.Inner.Write.{headerBytes}
 use Rattle.writer.specs.Write.{writeOf, writtenSaid}
 use Rattle.writer.specs.Records.{Record, chunkOf, recordsOf, Each, IsChunk, Taken, WellFormed, Typed, writtenAll, writeAll}

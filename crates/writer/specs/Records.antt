@@ -60,13 +60,13 @@ pub record Ran : Type 0 where
   pub place : Answer ℕ
 
 -- a refusal ends a run; else it goes on at the place that was given
-abbrev pub onward : Answer ℕ → List ℕ → (ℕ → Ran) → Ran
-onward (gives next) d go = go next
-onward (refuses n) d go = record { slice = d; place = refuses n }
+abbrev pub thenNext : Answer ℕ → List ℕ → (ℕ → Ran) → Ran
+thenNext (gives next) d go = go next
+thenNext (refuses n) d go = record { slice = d; place = refuses n }
 
 -- the records written into the slice d from a place on, each at the place that the one before gave
 unfoldable pub writeAll : Order → List Record → List ℕ → ℕ → Ran
 writeAll o [] d place = record { slice = d; place = gives place }
 writeAll o (r ∷ rest) d place =
     let d' : List ℕ = writtenOut o (r .code) (r .body) d place in
-    onward (writeOf o (r .code) (r .body) (length d) place) d' (λ next. writeAll o rest d' next)
+    thenNext (writeOf o (r .code) (r .body) (length d) place) d' (λ next. writeAll o rest d' next)

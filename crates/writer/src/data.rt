@@ -9,17 +9,17 @@ ghost use Rattle.writer.specs.Inner.Data.{wholeSamples};
 ghost use Rattle.writer.specs.Inner.Write.{headerBytes};
 ghost use Rattle.writer.specs.Write.{writeBy, laidBy, writtenSaid};
 use crate::Written;
-use body::fault::Fault;
+use body::Fault;
 use num::Order;
 
 // A header and a time.
 pub(crate) const FRONT: usize = 20;
 
-// The answer for `count` numbers of `wide` bytes, in samples of `unit` bytes, and a slice of `whole` bytes. The count is
+// The answer for `count` numbers of `stride` bytes, in samples of `unit` bytes, and a slice of `whole` bytes. The count is
 // tested before it is multiplied, so that no size overflows.
-fn answer(wide: usize, unit: usize, count: usize, whole: usize, place: usize) -> Written
-    requires { ⌜ (1 ≤ wide) × (wide ≤ 4) × (1 ≤ unit) ⌝ }
-    ensures { λ r. ⌜ writtenSaid r ≡ writeBy (wholeSamples unit (8 + count * wide)) (8 + count * wide) whole place ⌝ }
+fn answer(stride: usize, unit: usize, count: usize, whole: usize, place: usize) -> Written
+    requires { ⌜ (1 ≤ stride) × (stride ≤ 4) × (1 ≤ unit) ⌝ }
+    ensures { λ r. ⌜ writtenSaid r ≡ writeBy (wholeSamples unit (8 + count * stride)) (8 + count * stride) whole place ⌝ }
 {
     if whole < place {
         return Written::PastEnd;
@@ -27,7 +27,7 @@ fn answer(wide: usize, unit: usize, count: usize, whole: usize, place: usize) ->
     if frame::LIMIT < count {
         return Written::BadSize;
     }
-    let rest = count * wide;
+    let rest = count * stride;
     let size = 8 + rest;
     if !frame::good_size(size) {
         return Written::BadSize;
@@ -48,27 +48,27 @@ fn put_front(order: Order, code: u32, size: u32, time: i64, out: &mut [u8], plac
 {
     crate::put_header(order, code, size, out, place);
     let times = [time];
-    lay::runs::longs(order, &times, out, place + frame::HEADER);
+    lay::longs(order, &times, out, place + frame::HEADER);
 }
 
 // A data chunk up to its samples: the answer for `count` numbers, and the front where that is a next place.
 pub(crate) fn begin(
     order: Order,
     code: u32,
-    wide: usize,
+    stride: usize,
     unit: usize,
     count: usize,
     time: i64,
     out: &mut [u8],
     place: usize,
 ) -> Written
-    requires { ⌜ (1 ≤ wide) × (wide ≤ 4) × (1 ≤ unit) ⌝ }
-    ensures said { λ r. ⌜ writtenSaid r ≡ writeBy (wholeSamples unit (8 + count * wide)) (8 + count * wide) (length (now (out .entry))) place ⌝ }
-    ensures left { λ r. ⌜ now (out .exit) ≡ laidBy (writtenSaid r) (now (out .entry)) place (headerBytes order code (8 + count * wide) ++ int64 order time) ⌝ }
+    requires { ⌜ (1 ≤ stride) × (stride ≤ 4) × (1 ≤ unit) ⌝ }
+    ensures said { λ r. ⌜ writtenSaid r ≡ writeBy (wholeSamples unit (8 + count * stride)) (8 + count * stride) (length (now (out .entry))) place ⌝ }
+    ensures left { λ r. ⌜ now (out .exit) ≡ laidBy (writtenSaid r) (now (out .entry)) place (headerBytes order code (8 + count * stride) ++ int64 order time) ⌝ }
 {
-    let answered = answer(wide, unit, count, out.len(), place);
+    let answered = answer(stride, unit, count, out.len(), place);
     if let Written::Next(_) = answered {
-        put_front(order, code, (8 + count * wide) as u32, time, out, place);
+        put_front(order, code, (8 + count * stride) as u32, time, out, place);
     }
     answered
 }

@@ -3,6 +3,12 @@ mod data;
 pub mod patterns;
 pub mod shorts;
 
+pub use patterns::gfnc;
+pub use patterns::sfnc;
+pub use patterns::sfnr;
+pub use shorts::gsnc;
+pub use shorts::ssnc;
+pub use shorts::ssnr;
 ghost use mathlib.Core.Path.{_≡_};
 ghost use Prim.Native.Nat.{_+_, _≤_, _<_};
 ghost use lib.ListN.{length};
@@ -10,8 +16,8 @@ ghost use Rattle.frame.specs.Frames.{chunkBytes};
 ghost use Rattle.lay.specs.Splice.{splice};
 ghost use Rattle.writer.specs.Inner.Write.{headerBytes, isGood};
 ghost use Rattle.writer.specs.Write.{writeOf, writtenOut, writtenSaid};
-use body::fault::Checked;
-use body::fault::Fault;
+use body::Checked;
+use body::Fault;
 use num::Order;
 
 // What writing a record answers: the place past its chunk, or why nothing was written.
@@ -33,7 +39,7 @@ fn put_header(order: Order, code: u32, size: u32, out: &mut [u8], place: usize)
     ensures { λ _. ⌜ now (out .exit) ≡ splice (now (out .entry)) place (headerBytes order code size) ⌝ }
 {
     let words = [frame::SYNC, code, size];
-    lay::runs::words(order, &words, out, place);
+    lay::words(order, &words, out, place);
 }
 
 // A whole chunk: header and body.
@@ -68,7 +74,7 @@ fn answer(order: Order, code: u32, body: &[u8], whole: usize, place: usize) -> W
     if !frame::good_size(size) {
         return Written::BadSize;
     }
-    let checked = body::verdict::check(order, body::kind::kind_of(code), body);
+    let checked = body::check(order, body::kind_of(code), body);
     let short = whole - place < frame::HEADER + size;
     if is_good(checked) & short {
         return Written::NoRoom;

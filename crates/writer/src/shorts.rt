@@ -3,7 +3,7 @@ ghost use mathlib.Core.Path.{_≡_};
 ghost use Prim.Native.Nat.{_≤_};
 ghost use lib.ListN.{length};
 ghost use Rattle.body.specs.Kind.{codeOf};
-ghost use Rattle.body.specs.declared.kind.Kind.the-variants as K;
+ghost use Rattle.body.specs.declared.kinds.Kind.the-variants as K;
 ghost use Rattle.writer.specs.Inner.Data.{BySize};
 ghost use Rattle.writer.specs.Data.{shortBody};
 ghost use Rattle.writer.specs.Write.{writeOf, writtenOut, writtenSaid};
@@ -28,7 +28,7 @@ fn write(
     let count = samples.len();
     let answered = crate::data::begin(order, code, 2, unit, count, time, out, place);
     if let Written::Next(_) = answered {
-        lay::runs::shorts(order, samples, out, place + crate::data::FRONT);
+        lay::shorts(order, samples, out, place + crate::data::FRONT);
     }
     answered
 }

@@ -1,6 +1,6 @@
 -- The copying of 16-bit numbers, at the cursor that the steps lead to.
 use mathlib.Core.Path.{ap, _∙_}
-use Rattle.bench.specs.Plain.{given}
+use Rattle.bench.specs.Plain.{orZero}
 use borrow.Author.Needs.{needs}
 use Rattle.bench.proofs.bench_shorts.Statement.{statement}
 use Rattle.bench.proofs.bench_shorts.Tie as tie
@@ -24,7 +24,7 @@ returns : tie.Need-returns
 returns c =
     let k = c .before .before in
     let e = k .copy .ensures in
-    rw (← k .before .before .before .order-by .ensures, ← k .before .before .walk .ensures .0) (c .count-of .ensures ∙ ap given (e .0), e .1)
+    rw (← k .before .before .before .order-by .ensures, ← k .before .before .walk .ensures .0) (c .count-of .ensures ∙ ap orZero (e .0), e .1)
 
 pub bench-shorts-spec : {M : Type 1} → statement M
 bench-shorts-spec =

@@ -1,7 +1,7 @@
 -- The writer's answer and bytes in the order that the number names.
 use mathlib.Core.Path.{ap, _∙_}
 use borrow.Author.Needs.{needs}
-use Rattle.bench.specs.Plain.{given}
+use Rattle.bench.specs.Plain.{orZero}
 use Rattle.bench.proofs.bench_write.Statement.{statement}
 use Rattle.bench.proofs.bench_write.Tie as tie
 
@@ -21,7 +21,7 @@ returns : tie.Need-returns
 returns c =
     let k = c .before .before .before in
     let w = k .write .ensures in
-    rw (← k .before .before .order-by .ensures) (c .next-of .ensures ∙ ap given (w .0), w .1)
+    rw (← k .before .before .order-by .ensures) (c .next-of .ensures ∙ ap orZero (w .0), w .1)
 
 pub bench-write-spec : {M : Type 1} → statement M
 bench-write-spec =

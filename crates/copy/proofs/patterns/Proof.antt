@@ -4,14 +4,14 @@ use mathlib.Core.Path.{_≡_, refl, ap, _∙_}
 use mathlib.Core.List.{List}
 use native.Mathlib.Omega.{arith}
 use lib.ListN.{length, length-set}
-use Rattle.copy.specs.Samples.{patternAt, realsOf, laid}
+use Rattle.copy.specs.Samples.{patternAt, realsOf, frontFilled}
 use Rattle.copy.proofs.Laws.{reals-next, reals-length}
 use borrow.Author.Needs.{needs}
 use Rattle.copy.proofs.patterns.Statement.{statement}
 use Rattle.copy.proofs.patterns.Tie as tie
 
 abbrev Inv-loop : tie.InvT-loop
-Inv-loop order src first few count out₀ j₀ out j = (j ≤ few) × (out ≡ laid (realsOf (λ k. patternAt order src (first + k)) j) out₀)
+Inv-loop order src first few count out₀ j₀ out j = (j ≤ few) × (out ≡ frontFilled (realsOf (λ k. patternAt order src (first + k)) j) out₀)
 
 abbrev μ-loop : tie.MeasureT-loop
 μ-loop order src first few count out₀ j₀ out j = few - j
@@ -20,7 +20,7 @@ abbrev μ-loop : tie.MeasureT-loop
 abbrev Inv-loop2 : tie.InvT-loop2
 Inv-loop2 order src first few count out₀ j₀ out j =
     (j ≤ count) × (length out ≡ length out₀)
-    × ((d : List ℕ) → count ≤ length d → out₀ ≡ laid (realsOf (λ k. patternAt order src (first + k)) j₀) d → out ≡ laid (realsOf (λ k. patternAt order src (first + k)) j) d)
+    × ((d : List ℕ) → count ≤ length d → out₀ ≡ frontFilled (realsOf (λ k. patternAt order src (first + k)) j₀) d → out ≡ frontFilled (realsOf (λ k. patternAt order src (first + k)) j) d)
 
 abbrev μ-loop2 : tie.MeasureT-loop2
 μ-loop2 order src first few count out₀ j₀ out j = count - j

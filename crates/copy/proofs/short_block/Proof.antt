@@ -11,7 +11,7 @@ use mir.Syntax.{w16}
 use mir.Val.{toZ, ofZ}
 use Rattle.num.specs.Number.{unsigned, signed, bytesOf}
 use Rattle.num.specs.declared.Order.the-variants.{Big, Little}
-use Rattle.copy.specs.Samples.{bytesAt, shortAt, realsOf, laid}
+use Rattle.copy.specs.Samples.{bytesAt, shortAt, realsOf, frontFilled}
 use Rattle.copy.proofs.Halves.{little-halves, bytes-back}
 use Rattle.copy.proofs.Laws.{wanted-next, reals-behind, pairs-reals}
 use borrow.Author.Needs.{needs}
@@ -34,7 +34,7 @@ abbrev μ-loop : tie.MeasureT-loop
 
 abbrev Inv-loop2 : tie.InvT-loop2
 Inv-loop2 src place j out₀ halves k i₀ out i =
-    (i ≤ 32) × (length out ≡ length out₀) × (out ≡ take (2 * j) out₀ ++ laid (realsOf (numbers src place) i) (drop (2 * j) out₀))
+    (i ≤ 32) × (length out ≡ length out₀) × (out ≡ take (2 * j) out₀ ++ frontFilled (realsOf (numbers src place) i) (drop (2 * j) out₀))
 
 abbrev μ-loop2 : tie.MeasureT-loop2
 μ-loop2 src place j out₀ halves k i₀ out i = 32 - i

@@ -10,7 +10,7 @@ use Rattle.frame.specs.Ahead.{aheadOf, isChunk}
 use Rattle.frame.specs.declared.At.the-variants.{Complete}
 use Rattle.frame.proofs.Looks.{is-chunk, other-told}
 use Rattle.reader.proofs.Laws.{chunk-ends, chunk-body}
-use Rattle.filecheck.specs.File.{wellFormed, passes, onward, fileAhead}
+use Rattle.filecheck.specs.File.{wellFormed, passes, thenRest, fileAhead}
 use Rattle.filecheck.proofs.Laws.{ahead-not, ahead-chunk, data-ended, data-early}
 use Rattle.filecheck.proofs.next.Statement.{statement}
 use Rattle.filecheck.proofs.next.Tie as tie
@@ -66,7 +66,7 @@ ahead : (c : tie.After-part-of) (n : ℕ) →
     let k = c .before .before in
     let a = k .before .before .before .before .before .args in
     fileAhead (a .order) (a .s .now) n (a .place) (a .ended)
-    ≡ onward (a .place) (passes (c .part-of .result) (a .ended) (wellFormed (a .order) (metCode k) (take (metSize k) (drop 12 (drop (a .place) (a .s .now))))))
+    ≡ thenRest (a .place) (passes (c .part-of .result) (a .ended) (wellFormed (a .order) (metCode k) (take (metSize k) (drop 12 (drop (a .place) (a .s .now))))))
     (fileAhead (a .order) (a .s .now) (n + 1) (a .place + 12 + metSize k))
 ahead c n =
     let k = c .before .before in

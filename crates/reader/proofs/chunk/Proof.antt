@@ -2,7 +2,7 @@
 use borrow.Author.Needs.{needs}
 use Rattle.body.specs.Kind.{kindOf}
 use Rattle.effect.specs.Effect.{effect}
-use Rattle.effect.specs.Took.{Took}
+use Rattle.effect.specs.IsEffect.{IsEffect}
 use Rattle.reader.proofs.chunk.Statement.{statement}
 use Rattle.reader.proofs.chunk.Tie as tie
 
@@ -25,7 +25,7 @@ returns : tie.Need-returns
 returns c =
     let a = c .before .before .before .before .before .before .args in
     let next = c .before .before .before .before .accept in
-    let met : Took (c .before .before .take .result) (effect (a .order) (kindOf (a .code)) (a .body .now) (next .result .state)) =
+    let met : IsEffect (c .before .before .take .result) (effect (a .order) (kindOf (a .code)) (a .body .now) (next .result .state)) =
     rw (c .before .before .before .kind-of .ensures) at (c .before .before .take .ensures) in
     let t = rw (next .ensures) at met in
     record { item = rw (← t .says); shown = t .shown; cursor = rw (next .ensures, t .after) }

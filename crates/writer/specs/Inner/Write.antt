@@ -5,8 +5,8 @@ use mathlib.Core.List.{List, _++_}
 use Rattle.num.specs.Number.{bytesOf}
 use Rattle.num.specs.declared.Order.{Order}
 use Rattle.frame.specs.Place.{syncBytes}
-use Rattle.body.specs.declared.fault.Checked.{Checked}
-use Rattle.body.specs.declared.fault.Checked.the-variants as C
+use Rattle.body.specs.declared.faults.Checked.{Checked}
+use Rattle.body.specs.declared.faults.Checked.the-variants as C
 
 -- the front of a chunk: sync word, type, size
 abbrev pub headerBytes : Order → ℕ → ℕ → List ℕ

@@ -2,7 +2,7 @@
 use mathlib.Core.Path.{sym, ap, _∙_}
 use Rattle.body.specs.Plain.{empty}
 use Rattle.body.specs.Verdict.{seen, verdict}
-use Rattle.body.proofs.Groups.{seen-read, seen-unit}
+use Rattle.body.proofs.GroupLaws.{seen-read, seen-unit}
 use borrow.Author.Needs.{needs}
 use Rattle.body.proofs.verdict.check.Statement.{statement}
 use Rattle.body.proofs.verdict.check.Tie as tie

@@ -3,7 +3,7 @@ use mathlib.Core.Path.{refl, ap, _∙_}
 use mathlib.Core.List.{[], _∷_}
 use Rattle.body.specs.Kind.{known}
 use Rattle.body.specs.Table.{shaped}
-use Rattle.body.specs.declared.data.Shaped.the-variants.{NoSamples}
+use Rattle.body.specs.declared.sampled.Shaped.the-variants.{NoSamples}
 use Rattle.body.proofs.ByKeys.{kindAt, by-keys}
 use Rattle.effect.specs.Effect.{effect}
 use Rattle.effect.specs.Ready.{readyData}

@@ -14,7 +14,7 @@ use mir.Syntax.{w64}
 use mir.Val.{toZ, ofZ}
 use Rattle.num.specs.Choice.{both}
 use Rattle.body.specs.Levels.{isFinite}
-use Rattle.state.specs.Good.{offset, nothing, anyNumber, isZero, isPlusZero, goodFrom}
+use Rattle.state.specs.Good.{isOffset, isNoOffset, anyNumber, isZero, isPlusZero, goodFrom}
 use Rattle.state.proofs.Tests.{from-end}
 use Rattle.state.proofs.Reach.{reach-le, offsets-next, hertz-next, gains-next}
 use Rattle.state.proofs.good.places.Statement.{statement}
@@ -23,7 +23,7 @@ use Rattle.state.proofs.good.places.Tie as tie
 abbrev Inv-loop : tie.InvT-loop
 Inv-loop group frequencies gains offsets hertz decibels largest₀ endless₀ a₀ b₀ c₀ i₀ largest endless a b c i =
     (length offsets ≡ 16) × (length hertz ≡ 16) × (length decibels ≡ 16) × (a ≤ i) × (b ≤ i) × (c ≤ i) × (i ≤ 16)
-    × (goodFrom offset nothing (group .n) 0 offsets ≡ both (ltb largest (2 ^ 31) && leb a (group .n)) (goodFrom offset nothing (group .n) i (drop i offsets)))
+    × (goodFrom isOffset isNoOffset (group .n) 0 offsets ≡ both (ltb largest (2 ^ 31) && leb a (group .n)) (goodFrom isOffset isNoOffset (group .n) i (drop i offsets)))
     × (goodFrom anyNumber isZero (frequencies .n) 0 hertz ≡ both (leb b (frequencies .n)) (goodFrom anyNumber isZero (frequencies .n) i (drop i hertz)))
     × (goodFrom isFinite isPlusZero (gains .n) 0 decibels ≡ both (eqb endless 0 && leb c (gains .n)) (goodFrom isFinite isPlusZero (gains .n) i (drop i decibels)))
 
@@ -152,7 +152,7 @@ returns c =
     let l = c .before .before .before .before in
     let a = l .before .before .before .before .args in
     let k = l .loop in (
-      from-end offset nothing (a .group .n) (a .group .offsets) 0 (k .i) (ltb (k .largest) (2 ^ 31) && leb (k .a) (a .group .n)) (search needs) (k .inv .7),
+      from-end isOffset isNoOffset (a .group .n) (a .group .offsets) 0 (k .i) (ltb (k .largest) (2 ^ 31) && leb (k .a) (a .group .n)) (search needs) (k .inv .7),
       from-end anyNumber isZero (a .frequencies .n) (a .frequencies .values) (pos 0) (k .i) (leb (k .b) (a .frequencies .n)) (search needs) (k .inv .8),
       from-end isFinite isPlusZero (a .gains .n) (a .gains .values) nan (k .i) (eqb (k .endless) 0 && leb (k .c) (a .gains .n)) (search needs) (k .inv .9),
     )

@@ -9,7 +9,7 @@ use Rattle.lay.specs.Numbers.{int64}
 use Rattle.lay.proofs.Splice.{laid-whole}
 use Rattle.lay.proofs.Values.{run-two}
 use Rattle.body.specs.Kind.{codeOf}
-use Rattle.body.specs.declared.kind.Kind.the-variants.{BWOF}
+use Rattle.body.specs.declared.kinds.Kind.the-variants.{BWOF}
 use Rattle.typed.proofs.Writes.{same-body}
 use borrow.Author.Needs.{needs}
 use Rattle.typed.proofs.band.bwof.Statement.{statement}

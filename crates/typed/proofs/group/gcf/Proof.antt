@@ -11,7 +11,7 @@ use Rattle.num.proofs.Laws.{bytes-length}
 use Rattle.lay.specs.Numbers.{int64}
 use Rattle.lay.proofs.Values.{run-one}
 use Rattle.body.specs.Kind.{codeOf}
-use Rattle.body.specs.declared.kind.Kind.the-variants.{GCF}
+use Rattle.body.specs.declared.kinds.Kind.the-variants.{GCF}
 use Rattle.typed.specs.Groups.{atMost, hertzBody}
 use Rattle.typed.proofs.Laid.{group-laid}
 use Rattle.typed.proofs.Writes.{same-body}

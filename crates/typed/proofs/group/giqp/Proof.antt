@@ -10,7 +10,7 @@ use Rattle.num.proofs.Laws.{bytes-length}
 use Rattle.lay.specs.Runs.{runOf}
 use Rattle.lay.proofs.Values.{run-length}
 use Rattle.body.specs.Kind.{codeOf}
-use Rattle.body.specs.declared.kind.Kind.the-variants.{GIQP}
+use Rattle.body.specs.declared.kinds.Kind.the-variants.{GIQP}
 use Rattle.typed.specs.Groups.{atMost, packingBody}
 use Rattle.typed.proofs.Laid.{three-words, group-laid}
 use Rattle.typed.proofs.Writes.{same-body}

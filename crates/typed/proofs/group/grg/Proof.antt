@@ -9,7 +9,7 @@ use Rattle.num.proofs.Laws.{bytes-length}
 use Rattle.typed.specs.Bodies.{float32}
 use Rattle.lay.proofs.Values.{run-one}
 use Rattle.body.specs.Kind.{codeOf}
-use Rattle.body.specs.declared.kind.Kind.the-variants.{GRG}
+use Rattle.body.specs.declared.kinds.Kind.the-variants.{GRG}
 use Rattle.typed.specs.Groups.{atMost, gainsBody}
 use Rattle.typed.proofs.Laid.{group-laid}
 use Rattle.typed.proofs.Writes.{same-body}

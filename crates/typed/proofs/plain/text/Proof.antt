@@ -6,7 +6,7 @@ use lib.Seq.{length-take-le}
 use Rattle.num.specs.Number.{bytesOf}
 use Rattle.lay.proofs.Values.{run-one}
 use Rattle.body.specs.Kind.{codeOf}
-use Rattle.body.specs.declared.kind.Kind.the-variants.{TEXT}
+use Rattle.body.specs.declared.kinds.Kind.the-variants.{TEXT}
 use Rattle.typed.specs.Texts.{textBody}
 use Rattle.typed.proofs.Texts.{text-size, text-laid}
 use Rattle.typed.proofs.Writes.{same-body, past-end, too-large}

@@ -16,20 +16,20 @@ use Rattle.writer.proofs.data.answer.Tie as tie
 -- a count that is not above the limit makes a size that fits
 small : (c : tie.Else2) →
     let a = c .before .before .args in
-    a .count * a .wide ≤ 69632 * 4
+    a .count * a .stride ≤ 69632 * 4
 small c = mul-le-mul (c .if2 .left) (c .before .before .pre .1)
 
 good : (c : tie.Else3) →
     let a = c .before .before .before .before .args in
-    goodSize (8 + a .count * a .wide) ≡ true
+    goodSize (8 + a .count * a .stride) ≡ true
 good c = sym (c .before .good-size .ensures) ∙ not-false _ (c .if3 .left)
 
 whole : (c : tie.Else4) →
     let a = c .before .before .before .before .before .args in
-    wholeSamples (a .unit) (8 + a .count * a .wide) ≡ gives tt
+    wholeSamples (a .unit) (8 + a .count * a .stride) ≡ gives tt
 whole c =
     let a = c .before .before .before .before .before .args in
-    whole-rest (a .unit) (a .count * a .wide) true (eq-eqb _ _ (c .if4 .left))
+    whole-rest (a .unit) (a .count * a .stride) true (eq-eqb _ _ (c .if4 .left))
 
 returns : tie.Need-returns
 returns c = rw (lt-ltb _ _ (c .if1 .taken))
@@ -37,8 +37,8 @@ returns c = rw (lt-ltb _ _ (c .if1 .taken))
 returns-2 : tie.Need-returns-2
 returns-2 c =
     let s = c .before .before in
-    let large = mul-le-mul-left {m = 1} {n = s .args .wide} (s .args .count) (s .pre .0) in
-    rw (le-ltb _ _ (c .before .if1 .left), too-large (8 + s .args .count * s .args .wide) (omega arith))
+    let large = mul-le-mul-left {m = 1} {n = s .args .stride} (s .args .count) (s .pre .0) in
+    rw (le-ltb _ _ (c .before .if1 .left), too-large (8 + s .args .count * s .args .stride) (omega arith))
 
 mul-rest : tie.Need-mul-rest
 mul-rest c = omega (arith, small c)
@@ -52,7 +52,7 @@ good-size-requires c κs = search needs
 returns-3 : tie.Need-returns-3
 returns-3 c =
     let a = c .before .before .before .before .args in
-    let b : goodSize (8 + a .count * a .wide) ≡ false = sym (c .before .good-size .ensures) ∙ not-true _ (c .if3 .taken) in
+    let b : goodSize (8 + a .count * a .stride) ≡ false = sym (c .before .good-size .ensures) ∙ not-true _ (c .if3 .taken) in
     rw (le-ltb _ _ (c .before .before .before .if1 .left), b)
 
 rem-if4 : tie.Need-rem-if4
@@ -62,7 +62,7 @@ returns-4 : tie.Need-returns-4
 returns-4 c =
     let e = c .before .before .before .before in
     let a = e .before .args in
-    rw (le-ltb _ _ (e .if1 .left), good (c .before), whole-rest (a .unit) (a .count * a .wide) false (ne-eqb _ _ (c .if4 .taken)))
+    rw (le-ltb _ _ (e .if1 .left), good (c .before), whole-rest (a .unit) (a .count * a .stride) false (ne-eqb _ _ (c .if4 .taken)))
 
 add-if5 : tie.Need-add-if5
 add-if5 c = omega (arith, small (c .before .before .before))

@@ -20,11 +20,11 @@ enum-told : tie.Need-enum-told
 enum-told c = search needs
 
 -- a next place means room
-room : (c : tie.After-enum-told) → let a = c .before .before .before .before .args in Room (8 + a .count * a .wide) (length (a .out .now)) (a .place)
+room : (c : tie.After-enum-told) → let a = c .before .before .before .before .args in Room (8 + a .count * a .stride) (length (a .out .now)) (a .place)
 room c =
     let e = c .before .before in
     let a = e .before .before .args in
-    let size = 8 + a .count * a .wide in
+    let size = 8 + a .count * a .stride in
     next-room (wholeSamples (a .unit) size) size (length (a .out .now)) (a .place) (e .answer .result) (e .answer .ensures) (c .enum-told .given .1)
 
 mul-put-front : tie.Need-mul-put-front
@@ -54,7 +54,7 @@ returns-2 : tie.Need-returns-2
 returns-2 c =
     let e = c .before in
     let a = e .before .before .args in
-    (e .answer .ensures, untouched (a .out .now) (a .place) (headerBytes (a .order) (a .code) (8 + a .count * a .wide) ++ int64 (a .order) (a .time)) (e .answer .result) (c .match .keys2))
+    (e .answer .ensures, untouched (a .out .now) (a .place) (headerBytes (a .order) (a .code) (8 + a .count * a .stride) ++ int64 (a .order) (a .time)) (e .answer .result) (c .match .keys2))
 
 pub begin-spec : {M : Type 1} → statement M
 begin-spec =

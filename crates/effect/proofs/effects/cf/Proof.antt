@@ -1,0 +1,36 @@
+-- The value that is put into the state is the one that was read, or its absence.
+use mathlib.Core.Path.{ap, _∙_}
+use Rattle.body.specs.Numbers.{cf}
+use Rattle.body.specs.Check.{orElse}
+use Rattle.body.specs.Table.{centre}
+use Rattle.body.specs.Values.{noNumber, number}
+use Rattle.effect.specs.Says.{judged}
+use Rattle.effect.specs.Effect.{effect}
+use Rattle.effect.proofs.Laws.{set-took}
+use borrow.Author.Needs.{needs}
+use Rattle.effect.proofs.effects.cf.Statement.{statement}
+use Rattle.effect.proofs.effects.cf.Tie as tie
+
+cf-requires : tie.Need-cf-requires
+cf-requires c κs = search needs
+
+held-requires : tie.Need-held-requires
+held-requires c κs = search needs
+
+of-number-requires : tie.Need-of-number-requires
+of-number-requires c κs = search needs
+
+set-requires : tie.Need-set-requires
+set-requires c κs = search needs
+
+returns : tie.Need-returns
+unfolding effect
+returns c =
+    let a = c .before .before .before .before .before .before .args in
+    let e = c .before .before .before .before .cf .ensures in
+    set-took centre number (cf (a .order) (a .body .now)) (a .was) (c .set .ensures)
+    (c .before .of-number .ensures ∙ ap judged e)
+    (c .before .before .before .held .ensures ∙ ap (orElse noNumber number) e)
+
+pub cf-spec : {M : Type 1} → statement M
+cf-spec = tie.close (tie.spec cf-requires held-requires of-number-requires set-requires returns)

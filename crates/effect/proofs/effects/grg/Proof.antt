@@ -1,0 +1,30 @@
+-- The value that is put into the state is the one that was read, or its absence.
+use mathlib.Core.Path.{ap, _∙_}
+use Rattle.body.specs.Groups.{grg}
+use Rattle.body.specs.Table.{gains}
+use Rattle.effect.specs.Effect.{effect}
+use Rattle.effect.proofs.Laws.{set-took, read-judged}
+use borrow.Author.Needs.{needs}
+use Rattle.effect.proofs.effects.grg.Statement.{statement}
+use Rattle.effect.proofs.effects.grg.Tie as tie
+
+grg-requires : tie.Need-grg-requires
+grg-requires c κs = search needs
+
+of-checked-requires : tie.Need-of-checked-requires
+of-checked-requires c κs = search needs
+
+set-requires : tie.Need-set-requires
+set-requires c κs = search needs
+
+returns : tie.Need-returns
+unfolding effect
+returns c =
+    let a = c .before .before .before .before .before .before .args in
+    let e = c .before .before .before .before .grg .ensures in
+    set-took gains (λ g. g) (grg (a .order) (a .body .now)) (a .was) (c .set .ensures)
+    (c .before .of-checked .ensures ∙ read-judged e)
+    (e .holds)
+
+pub grg-spec : {M : Type 1} → statement M
+grg-spec = tie.close (tie.spec grg-requires of-checked-requires set-requires returns)

@@ -1,0 +1,30 @@
+// The level kinds, written from a level.
+ghost use mathlib.Core.Path.{_≡_};
+ghost use lib.ListN.{length};
+ghost use Rattle.writer.specs.Write.{writeOf, writtenOut, writtenSaid};
+ghost use Rattle.typed.specs.Bodies.{float32};
+ghost use Rattle.typed.specs.Levels.{levelCode, levelValue};
+use body::Level;
+use num::Order;
+use writer::Written;
+
+// A record of one float32.
+fn float(order: Order, code: u32, x: f32, out: &mut [u8], place: usize) -> Written
+    ensures said { λ r. ⌜ writtenSaid r ≡ writeOf order code (float32 order x) (length (now (out .entry))) place ⌝ }
+    ensures left { λ _. ⌜ now (out .exit) ≡ writtenOut order code (float32 order x) (now (out .entry)) place ⌝ }
+{
+    let body = num::u32_bytes(order, body::pattern(x));
+    writer::write(order, code, &body, out, place)
+}
+
+// dBFS, dBTG or FFS_, by the level's case.
+pub fn level(order: Order, level: Level, out: &mut [u8], place: usize) -> Written
+    ensures said { λ r. ⌜ writtenSaid r ≡ writeOf order (levelCode level) (float32 order (levelValue level)) (length (now (out .entry))) place ⌝ }
+    ensures left { λ _. ⌜ now (out .exit) ≡ writtenOut order (levelCode level) (float32 order (levelValue level)) (now (out .entry)) place ⌝ }
+{
+    match level {
+        Level::FullScale(x) => float(order, 0x6442_4653, x, out, place),
+        Level::TotalGain(x) => float(order, 0x6442_5447, x, out, place),
+        Level::FloatFullScale(x) => float(order, 0x4646_535F, x, out, place),
+    }
+}
