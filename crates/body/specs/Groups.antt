@@ -49,9 +49,13 @@ listed head value o body f =
     pick (ltb (length body) head) (refuses 11)
     (withChannels (int32 o body 0) (λ n. sized (head + value * n) body (f n)))
 
+-- the bytes of a GIQP before its offsets: n, packing and increment
+abbrev pub packingHead : ℕ
+packingHead = 12
+
 -- GIQP: n, packing 0 or 1, increment 1 or n, n offsets of at least 0
 unfoldable pub offsetAt : Order → List ℕ → ℕ → ℤ
-offsetAt o body c = int32 o body (12 + 4 * c)
+offsetAt o body c = int32 o body (packingHead + 4 * c)
 
 -- z is the number k
 abbrev pub isNumber : ℕ → ℤ → Bool
@@ -72,7 +76,7 @@ packed o body n =
     (record { n = n; iq = isNumber 1 (int32 o body 4); increment = natAbs (int32 o body 8); offsets = sixteen (λ c. natAbs (offsetAt o body c)) 0 n })
 
 abbrev pub giqp : Order → List ℕ → Answer GroupPacking
-giqp o body = listed 12 4 o body (packed o body)
+giqp o body = listed packingHead 4 o body (packed o body)
 
 -- GCF_: n, then n int64
 unfoldable pub hertzAt : Order → List ℕ → ℕ → ℤ

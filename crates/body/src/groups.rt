@@ -10,10 +10,13 @@ ghost use Rattle.num.specs.Answer.{gives, refuses};
 ghost use Rattle.body.specs.Fault.{faultNumber};
 ghost use Rattle.body.specs.Lists.{sixteen};
 ghost use Rattle.body.specs.Inner.Answers.{channelsSaid, InCount};
-ghost use Rattle.body.specs.Groups.{Read, noPacking, noHertz, noGains, listed, offsetAt, hertzAt, gainAt, offsetsOk, gainsOk, headOk, packed, amplified, giqp, gcf, grg};
+ghost use Rattle.body.specs.Groups.{Read, packingHead, noPacking, noHertz, noGains, listed, offsetAt, hertzAt, gainAt, offsetsOk, gainsOk, headOk, packed, amplified, giqp, gcf, grg};
 use crate::faults::Checked;
 use crate::faults::Fault;
 use num::Order;
+
+// The bytes of a GIQP before its offsets: n, packing and increment.
+pub const PACKING_HEAD: usize = 12;
 
 // How the pairs of a group chunk are packed: n channels, 0 where absent; I before Q or not; the step from one sample of a
 // channel to its next, in pairs; the first pair of each channel, and 0 in the places that are not used.
@@ -88,7 +91,7 @@ pub fn no_gains() -> GroupGains
 
 // How many channels a body has, where head bytes stand before the values and a value takes so many.
 fn count(order: Order, body: &[u8], head: usize, value: usize) -> ChannelsRead
-    requires { ⌜ (4 ≤ head) × (head ≤ 12) × (value ≤ 8) ⌝ }
+    requires { ⌜ (4 ≤ head) × (head ≤ packingHead) × (value ≤ 8) ⌝ }
     ensures { λ r. ⌜ (channelsSaid r ≡ listed head value order (now (body .entry)) gives) × InCount r ⌝ }
 {
     if body.len() < head {
@@ -113,7 +116,7 @@ fn good_offsets(order: Order, body: &[u8], n: usize) -> bool
 {
     let mut c = 0;
     while c < n {
-        if num::i32_at(order, body, 12 + 4 * c) < 0 {
+        if num::i32_at(order, body, PACKING_HEAD + 4 * c) < 0 {
             return false;
         }
         c += 1;
@@ -128,7 +131,7 @@ fn offsets(order: Order, body: &[u8], n: usize) -> [u32; 16]
     let mut a = [0u32; 16];
     let mut c = 0;
     while c < n {
-        a[c] = num::u32_at(order, body, 12 + 4 * c);
+        a[c] = num::u32_at(order, body, PACKING_HEAD + 4 * c);
         c += 1;
     }
     a
@@ -218,7 +221,7 @@ fn packing_of(order: Order, body: &[u8], n: usize) -> GroupPackingRead
 pub fn giqp(order: Order, body: &[u8]) -> GroupPackingRead
     ensures { λ r. ⌜ Read (r .checked) (r .packing) noPacking (giqp order (now (body .entry))) ⌝ }
 {
-    match count(order, body, 12, 4) {
+    match count(order, body, PACKING_HEAD, 4) {
         ChannelsRead::Is(n) => packing_of(order, body, n),
         ChannelsRead::Malformed(f) => packing_faulty(f),
     }

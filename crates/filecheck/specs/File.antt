@@ -7,6 +7,7 @@ use lib.ListN.{length, drop}
 use Rattle.num.specs.Answer.{Answer, gives, refuses}
 use Rattle.num.specs.Choice.{pick, either}
 use Rattle.num.specs.declared.Order.{Order}
+use Rattle.frame.specs.Place.{headerSize}
 use Rattle.frame.specs.Frames.{Frame, ofChunk, frames}
 use Rattle.body.specs.Kind.{codeOf, kindOf}
 use Rattle.body.specs.Table.{shaped}
@@ -80,7 +81,7 @@ fileFrom o n place ended (f ∷ rest) =
     ofChunk (refused 44 place)
     (λ code body.
     thenRest place (passes (partOf (kindOf code)) ended (wellFormed o code body))
-    (λ next. fileFrom o (n + 1) (place + 12 + length body) next rest))
+    (λ next. fileFrom o (n + 1) (place + headerSize + length body) next rest))
     f
 
 -- the same, said of the bytes of the file
@@ -93,7 +94,7 @@ fileBy o [] = refused 41 0
 fileBy o (f ∷ rest) =
     ofChunk (refused 41 0)
     (λ code body.
-    pick (begins (partOf (kindOf code)) (wellFormed o code body)) (fileFrom o 1 (12 + length body) false rest) (refused 41 0))
+    pick (begins (partOf (kindOf code)) (wellFormed o code body)) (fileFrom o 1 (headerSize + length body) false rest) (refused 41 0))
     f
 
 -- what the check of a file says

@@ -67,12 +67,13 @@ fn begin(order: Order, s: &[u8]) -> Turn
     let Ahead::Chunk { code, size } = frame::ahead_of(order, s, 0) else {
         return Turn::Stops(FileChecked::NoHeader);
     };
-    let to = 12 + size;
+    let from = frame::HEADER;
+    let to = from + size;
     let kind = body::kind_of(code);
     let Part::Header = part_of(kind) else {
         return Turn::Stops(FileChecked::NoHeader);
     };
-    if well_formed(order, kind, &s[12..to]) {
+    if well_formed(order, kind, &s[from..to]) {
         Turn::Goes { to, ended: false }
     } else {
         Turn::Stops(FileChecked::NoHeader)
@@ -87,7 +88,7 @@ fn next(order: Order, s: &[u8], place: usize, ended: bool) -> Turn
     let Ahead::Chunk { code, size } = frame::ahead_of(order, s, place) else {
         return Turn::Stops(FileChecked::NotAChunk(place));
     };
-    let from = place + 12;
+    let from = place + frame::HEADER;
     let to = from + size;
     let kind = body::kind_of(code);
     match part_of(kind) {

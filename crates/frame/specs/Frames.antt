@@ -7,7 +7,7 @@ use Rattle.num.specs.Number.{bytesOf}
 use Rattle.num.specs.declared.Order.{Order}
 use Rattle.frame.specs.declared.At.{At}
 use Rattle.frame.specs.declared.At.the-variants.{NoSync, Bad, Unfinished, Complete}
-use Rattle.frame.specs.Place.{syncBytes, shows, gap}
+use Rattle.frame.specs.Place.{headerSize, syncBytes, shows, gap}
 
 pub data Frame : Type 0 where
   -- a chunk, by its type and its body
@@ -38,13 +38,13 @@ frameBytes o (unfinished bytes) = bytes
 
 -- and how many they are
 abbrev pub width : Frame → ℕ
-width (chunk type body) = 12 + length body
+width (chunk type body) = headerSize + length body
 width (skipped bytes) = length bytes
 width (unfinished bytes) = length bytes
 
 -- the frame at the front, by what stands there: a complete chunk, an unfinished end, or the stretch up to where a search stops
 abbrev pub frameAt : At → ℕ → List ℕ → Frame
-frameAt (Complete code size) g l = chunk code (take size (drop 12 l))
+frameAt (Complete code size) g l = chunk code (take size (drop headerSize l))
 frameAt Unfinished g l = unfinished l
 frameAt NoSync g l = skipped (take g l)
 frameAt Bad g l = skipped (take g l)

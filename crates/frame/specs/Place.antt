@@ -17,6 +17,18 @@ use Rattle.frame.specs.declared.Found.the-variants.{Place, Nothing}
 use Rattle.frame.specs.declared.OrderFound.{OrderFound}
 use Rattle.frame.specs.declared.OrderFound.the-variants.{Is, Neither}
 
+-- the bytes of a header: sync word, type and size
+abbrev pub headerSize : ℕ
+headerSize = 12
+
+-- the bytes of a data chunk before its samples: the header, and the time
+abbrev pub frontSize : ℕ
+frontSize = 20
+
+-- the most bytes of a body
+abbrev pub sizeLimit : ℕ
+sizeLimit = 69632
+
 -- the sync word as it stands in a stream
 abbrev pub syncBytes : Order → List ℕ
 syncBytes o = bytesOf o 4 0xA1B2C3D4
@@ -39,16 +51,16 @@ sizeIn o l = word o (drop 8 l)
 
 -- a size is good: at most 69,632, and a multiple of 4
 abbrev pub goodSize : ℕ → Bool
-goodSize n = both (leb n 69632) (eqb (n % 4) 0)
+goodSize n = both (leb n sizeLimit) (eqb (n % 4) 0)
 
 -- No sync; or unfinished, the header not whole; or bad, the size not good; or unfinished, the body running past the end;
 -- or complete.
 unfoldable pub shows : Order → List ℕ → At
 shows o l =
     pick (starts (syncBytes o) l)
-    (pick (ltb (length l) 12) Unfinished
+    (pick (ltb (length l) headerSize) Unfinished
     (pick (goodSize (sizeIn o l))
-    (pick (leb (sizeIn o l) (length l - 12)) (Complete (typeIn o l) (sizeIn o l)) Unfinished)
+    (pick (leb (sizeIn o l) (length l - headerSize)) (Complete (typeIn o l) (sizeIn o l)) Unfinished)
     Bad))
     NoSync
 

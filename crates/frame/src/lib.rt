@@ -19,6 +19,9 @@ const SYNC_TURNED: u32 = 0xD4C3B2A1;
 // A header: sync word, type and size, four bytes each.
 pub const HEADER: usize = 12;
 
+// A data chunk up to its samples: the header, and a time of eight bytes.
+pub const FRONT: usize = 20;
+
 // The largest body.
 pub const LIMIT: usize = 69632;
 

@@ -6,6 +6,7 @@ use lib.ListN.{length}
 use Rattle.num.specs.declared.Order.{Order}
 use Rattle.frame.specs.Frames.{Frame, frames}
 use Rattle.frame.specs.Frames as Frames
+use Rattle.frame.specs.Place.{headerSize}
 use Rattle.body.specs.Kind.{kindOf}
 use Rattle.state.specs.declared.State.{State}
 use Rattle.effect.specs.Ready.{noState}
@@ -24,7 +25,7 @@ unfoldable pub itemsFrom : Order → ℕ → Bool → State → List Frame → L
 itemsFrom o p step s [] = []
 itemsFrom o p step s (Frames.chunk code body ∷ rest) =
     let e : Effect = effect o (kindOf code) body (before step s) in
-    record { item = chunk p code (length body) (e .says); shown = e .shown } ∷ itemsFrom o (p + 12 + length body) true (e .after) rest
+    record { item = chunk p code (length body) (e .says); shown = e .shown } ∷ itemsFrom o (p + headerSize + length body) true (e .after) rest
 itemsFrom o p step s (Frames.skipped bytes ∷ rest) =
     record { item = skipped p (length bytes); shown = noState } ∷ itemsFrom o (p + length bytes) false s rest
 itemsFrom o p step s (Frames.unfinished bytes ∷ rest) =

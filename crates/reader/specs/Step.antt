@@ -7,7 +7,7 @@ use lib.ListN.{length, take, drop}
 use Rattle.num.specs.Answer.{Answer, gives, refuses}
 use Rattle.num.specs.Choice.{pick, both}
 use Rattle.num.specs.declared.Order.{Order}
-use Rattle.frame.specs.Place.{gap}
+use Rattle.frame.specs.Place.{headerSize, gap}
 use Rattle.frame.specs.Ahead.{aheadOf}
 use Rattle.frame.specs.declared.Ahead.{Ahead}
 use Rattle.frame.specs.declared.Ahead.the-variants.{End, Stretch, Cut, Chunk}
@@ -62,13 +62,13 @@ abbrev pub accepts : Cursor → ℕ → ℕ → Effect → Step
 accepts c code size e = record {
   item = gives (chunk (c .place) code size (e .says));
   shown = e .shown;
-  cursor = cursorAt (c .place + 12 + size) true (e .after);
+  cursor = cursorAt (c .place + headerSize + size) true (e .after);
 }
 
 -- by what is ahead, l being the bytes from the place on; with none left the answer is End, the cursor as it came
 abbrev pub stepBy : Order → List ℕ → Cursor → Ahead → Step
 stepBy o l c End = record { item = gives end; shown = noState; cursor = c }
-stepBy o l c (Chunk code size) = accepts c code size (effect o (kindOf code) (take size (drop 12 l)) (before (c .«in_step») (c .state)))
+stepBy o l c (Chunk code size) = accepts c code size (effect o (kindOf code) (take size (drop headerSize l)) (before (c .«in_step») (c .state)))
 stepBy o l c Cut = cuts c (length l)
 stepBy o l c Stretch = skips c (gap o l)
 

@@ -7,7 +7,7 @@ ghost use Rattle.body.specs.Kind.{kindOf};
 ghost use Rattle.effect.specs.Effect.{effect};
 ghost use Rattle.effect.specs.Ready.{noState};
 ghost use Rattle.frame.specs.Frames.{width, first};
-ghost use Rattle.frame.specs.Place.{gap};
+ghost use Rattle.frame.specs.Place.{headerSize, gap};
 ghost use Rattle.state.specs.State.{withMark};
 ghost use Rattle.reader.specs.Items.{items};
 ghost use Rattle.reader.specs.IsStep.{IsStep};
@@ -132,7 +132,7 @@ impl Cursor {
         match frame::ahead_of(order, s, at) {
             Ahead::End => still(Item::End, self),
             Ahead::Chunk { code, size } => {
-                let from = at + 12;
+                let from = at + frame::HEADER;
                 let to = from + size;
                 chunk(order, code, &s[from..to], self)
             }
@@ -163,12 +163,12 @@ fn still(item: Item, cursor: Cursor) -> Stepped
 
 // A complete chunk is accepted: the body takes effect on the state.
 fn chunk(order: Order, code: u32, body: &[u8], cursor: Cursor) -> Stepped
-    requires { ⌜ cursor .place + 12 + length (now body) < 2 ^ 64 ⌝ }
+    requires { ⌜ cursor .place + headerSize + length (now body) < 2 ^ 64 ⌝ }
     ensures { λ r. ⌜ IsStep r (accepts cursor code (length (now (body .entry))) (effect order (kindOf code) (now (body .entry)) (before (cursor .«in_step») (cursor .state)))) ⌝ }
 {
     let place = cursor.place;
     let size = body.len();
-    let next = cursor.accept(place + 12 + size);
+    let next = cursor.accept(place + frame::HEADER + size);
     let taken = effect::take(order, body::kind_of(code), body, next.state);
     let after = taken.state;
     let shown = taken.shown;
@@ -246,7 +246,7 @@ fn past(order: Order, s: &[u8], place: usize) -> usize
     ensures { λ r. ⌜ r ≡ place + width (first order (drop place (now (s .entry)))) ⌝ }
 {
     match frame::ahead_of(order, s, place) {
-        Ahead::Chunk { code: _, size } => place + 12 + size,
+        Ahead::Chunk { code: _, size } => place + frame::HEADER + size,
         Ahead::Cut => s.len(),
         Ahead::Stretch => stop(order, s, place),
         Ahead::End => place,

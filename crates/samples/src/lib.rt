@@ -211,10 +211,10 @@ fn plan(order: Order, s: &[u8], cursor: Cursor, channel: usize, float: bool) -> 
     )
 }
 
-fn sized(frontFilled: Laid, size: usize) -> Planned
-    ensures { λ r. ⌜ r ≡ sizedBy frontFilled size ⌝ }
+fn sized(laid: Laid, size: usize) -> Planned
+    ensures { λ r. ⌜ r ≡ sizedBy laid size ⌝ }
 {
-    match frontFilled {
+    match laid {
         Laid::At(layout) => Planned::Go(layout, size),
         Laid::NoChannel => Planned::NoChannel,
         Laid::NotReady => Planned::NotReady,

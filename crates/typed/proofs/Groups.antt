@@ -29,7 +29,7 @@ use Rattle.body.specs.declared.groups.GroupHertz.{GroupHertz}
 use Rattle.body.specs.declared.groups.GroupGains.{GroupGains}
 use Rattle.body.proofs.GroupLaws.{listed-many, listed-whole, packed-head, packed-offsets, packed-good}
 use Rattle.body.proofs.Laws.{negative32, is-pattern}
-use Rattle.state.specs.Good.{isZero, isPlusZero, anyNumber, offset, nothing, goodFrom, goodHead, goodList, goodGroup, goodFrequencies, goodGains}
+use Rattle.state.specs.Good.{isZero, isPlusZero, anyNumber, isOffset, isNoOffset, goodFrom, goodHead, goodList, goodGroup, goodFrequencies, goodGains}
 use Rattle.state.proofs.Tests.{plus-zero-pattern}
 use Rattle.lay.specs.Numbers.{int64}
 use Rattle.lay.specs.Runs.{runOf}
@@ -192,26 +192,26 @@ module _ (o : Order) (g : GroupPacking) (few : 1 ≤ g .n) (many : g .n ≤ 16) 
   -- a good group is read back
   good-back : goodGroup g ≡ true → giqp o (packingBody o g) ≡ gives g
   good-back good =
-      let a = both-true (goodHead g) (goodList offset nothing (g .n) (g .offsets)) good in
-      let b = both-true (leb (g .n) 16) (goodFrom offset nothing (g .n) 0 (g .offsets)) (a .1) .1 in
+      let a = both-true (goodHead g) (goodList isOffset isNoOffset (g .n) (g .offsets)) good in
+      let b = both-true (leb (g .n) 16) (goodFrom isOffset isNoOffset (g .n) 0 (g .offsets)) (a .1) .1 in
       let i : either (eqb (g .increment) 1) (eqb (g .increment) (g .n)) ≡ true = rw (ne-eqb (g .n) 0 (λ e. omega arith)) at (a .0) in
       let r : offsetsOk o (packingBody o g) (g .n) ≡ true = each-all (λ c. leZ (pos 0) (offsetAt o (packingBody o g) c)) (g .n) (λ c h. rw (is-offset b c h) (le-leb 0 (getD (g .offsets) c 0) (omega arith))) in
-      let v : sixteen (λ c. natAbs (offsetAt o (packingBody o g) c)) 0 (g .n) ≡ g .offsets = list-back offset nothing 0 (g .n) _ (g .offsets) b (λ c h. ap natAbs (is-offset b c h)) (λ c h. eqb-true _ 0 h) all in
+      let v : sixteen (λ c. natAbs (offsetAt o (packingBody o g) c)) 0 (g .n) ≡ g .offsets = list-back isOffset isNoOffset 0 (g .n) _ (g .offsets) b (λ c h. ap natAbs (is-offset b c h)) (λ c h. eqb-true _ 0 h) all in
       packing-read
       ∙ packed-good o (packingBody o g) (g .n) (pick (g .iq) 1 0) (g .increment) iq-at increment-at (head-back (g .iq) (g .increment) (g .n) many i) r
       ∙ rw (packing-is (g .iq), v)
     where
-      is-offset : goodFrom offset nothing (g .n) 0 (g .offsets) ≡ true → (c : ℕ) → c < g .n → offsetAt o (packingBody o g) c ≡ pos (getD (g .offsets) c 0)
-      is-offset b c h = offset-at c h ∙ toZ-pos w32 (getD (g .offsets) c 0) (ltb-true _ _ (used-at offset nothing 0 (g .n) c (g .offsets) b (omega arith) h))
+      is-offset : goodFrom isOffset isNoOffset (g .n) 0 (g .offsets) ≡ true → (c : ℕ) → c < g .n → offsetAt o (packingBody o g) c ≡ pos (getD (g .offsets) c 0)
+      is-offset b c h = offset-at c h ∙ toZ-pos w32 (getD (g .offsets) c 0) (ltb-true _ _ (used-at isOffset isNoOffset 0 (g .n) c (g .offsets) b (omega arith) h))
 
 pub packing-back : (o : Order) (g : GroupPacking) → goodGroup g ≡ true → 1 ≤ g .n → length (g .offsets) ≡ 16 → giqp o (packingBody o g) ≡ gives g
 packing-back o g good few all =
-    let a = both-true (goodHead g) (goodList offset nothing (g .n) (g .offsets)) good in
-    let b = both-true (leb (g .n) 16) (goodFrom offset nothing (g .n) 0 (g .offsets)) (a .1) in
+    let a = both-true (goodHead g) (goodList isOffset isNoOffset (g .n) (g .offsets)) good in
+    let b = both-true (leb (g .n) 16) (goodFrom isOffset isNoOffset (g .n) 0 (g .offsets)) (a .1) in
     let many = leb-true (g .n) 16 (b .0) in
     let i : either (eqb (g .increment) 1) (eqb (g .increment) (g .n)) ≡ true = rw (ne-eqb (g .n) 0 (λ e. omega arith)) at (a .0) in
     let small = one-or (g .increment) (g .n) (eqb (g .increment) 1) refl i few in
-    good-back o g few many all (omega arith) (λ c h. let k = ltb-true (getD (g .offsets) c 0) (2 ^ 31) (used-at offset nothing 0 (g .n) c (g .offsets) (b .1) (omega arith) h) in omega arith) good
+    good-back o g few many all (omega arith) (λ c h. let k = ltb-true (getD (g .offsets) c 0) (2 ^ 31) (used-at isOffset isNoOffset 0 (g .n) c (g .offsets) (b .1) (omega arith) h) in omega arith) good
 
 -- ---- GCF_
 

@@ -23,7 +23,7 @@ use Rattle.body.specs.declared.groups.GroupHertz.{GroupHertz}
 use Rattle.body.specs.declared.groups.GroupGains.{GroupGains}
 use Rattle.body.specs.declared.kinds.Kind.{Kind}
 use Rattle.body.specs.declared.kinds.Kind.the-variants.{GIQP, GCF, GRG, TEXT}
-use Rattle.state.specs.Good.{isZero, isPlusZero, anyNumber, offset, nothing, goodFrom, goodHead, goodList, goodGroup, goodFrequencies, goodGains}
+use Rattle.state.specs.Good.{isZero, isPlusZero, anyNumber, isOffset, isNoOffset, goodFrom, goodHead, goodList, goodGroup, goodFrequencies, goodGains}
 use Rattle.writer.specs.Write.{mayWrite}
 use Rattle.typed.specs.Groups.{packingBody, hertzBody, gainsBody}
 use Rattle.typed.specs.Texts.{textBody}
@@ -36,8 +36,8 @@ taken o k body e h m v = rw (le-leb (length body) 69632 h, eq-eqb (length body %
 pub packing-taken : (o : Order) (g : GroupPacking) → goodGroup g ≡ true → 1 ≤ g .n → length (g .offsets) ≡ 16 → mayWrite o (codeOf GIQP) (packingBody o g) ≡ gives tt
 unfolding known kindIn kindOf verdict
 packing-taken o g good few m =
-    let a = both-true (goodHead g) (goodList offset nothing (g .n) (g .offsets)) good in
-    let many = leb-true (g .n) 16 (both-true (leb (g .n) 16) (goodFrom offset nothing (g .n) 0 (g .offsets)) (a .1) .0) in
+    let a = both-true (goodHead g) (goodList isOffset isNoOffset (g .n) (g .offsets)) good in
+    let many = leb-true (g .n) 16 (both-true (leb (g .n) 16) (goodFrom isOffset isNoOffset (g .n) 0 (g .offsets)) (a .1) .0) in
     let s = packing-size o g (omega arith) in
     taken o GIQP (packingBody o g) refl (omega arith) (omega arith) (ap seen (packing-back o g good few m))
 

@@ -13,6 +13,7 @@ ghost use Rattle.typed.specs.Groups.{atMost, packingBody, hertzBody, gai
 use body::GroupGains;
 use body::GroupHertz;
 use body::GroupPacking;
+use body::groups::PACKING_HEAD;
 use num::Order;
 use writer::Written;
 
@@ -59,9 +60,9 @@ pub fn giqp(order: Order, packing: GroupPacking, out: &mut [u8], place: usize) -
     let list: &[u32] = &offsets;
     let mut body = [0u8; 76];
     lay::words(order, &head, &mut body, 0);
-    lay::words(order, &list[..used], &mut body, 12);
+    lay::words(order, &list[..used], &mut body, PACKING_HEAD);
     let all: &[u8] = &body;
-    let end = 12 + 4 * used;
+    let end = PACKING_HEAD + 4 * used;
     writer::write(order, 0x4749_5150, &all[..end], out, place)
 }
 

@@ -1,6 +1,7 @@
 // TEXT, written from its bytes.
 ghost use mathlib.Core.Path.{_≡_};
 ghost use lib.ListN.{length, replicate};
+ghost use Rattle.frame.specs.Place.{sizeLimit};
 ghost use Rattle.body.specs.Kind.{codeOf};
 ghost use Rattle.body.specs.declared.kinds.Kind.the-variants as K;
 ghost use Rattle.writer.specs.Write.{writeOf, writtenOut, writtenSaid};
@@ -8,11 +9,14 @@ ghost use Rattle.typed.specs.Texts.{textBody};
 use num::Order;
 use writer::Written;
 
+// The longest text: the largest body without the four bytes of the length.
+const LONGEST: usize = frame::LIMIT - 4;
+
 // Room for the largest body.
-fn room() -> [u8; 69632]
-    ensures { λ r. ⌜ r ≡ replicate 69632 0 ⌝ }
+fn room() -> [u8; frame::LIMIT]
+    ensures { λ r. ⌜ r ≡ replicate sizeLimit 0 ⌝ }
 {
-    [0u8; 69632]
+    [0u8; frame::LIMIT]
 }
 
 // TEXT: a length, the bytes of the text, and zero bytes up to the next multiple of 4.
@@ -24,7 +28,7 @@ pub fn text(order: Order, bytes: &[u8], out: &mut [u8], place: usize) -> Written
     if out.len() < place {
         return Written::PastEnd;
     }
-    if 69628 < n {
+    if LONGEST < n {
         return Written::BadSize;
     }
     let mut body = room();

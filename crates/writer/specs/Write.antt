@@ -7,7 +7,7 @@ use Rattle.num.specs.Answer.{Answer, gives, refuses, then}
 use Rattle.num.specs.Choice.{pick}
 use Rattle.num.specs.declared.Order.{Order}
 use Rattle.lay.specs.Splice.{splice}
-use Rattle.frame.specs.Place.{goodSize}
+use Rattle.frame.specs.Place.{headerSize, goodSize}
 use Rattle.frame.specs.Frames.{chunkBytes}
 use Rattle.body.specs.Fault.{faultNumber}
 use Rattle.body.specs.Kind.{kindOf}
@@ -20,12 +20,12 @@ abbrev pub mayBy : Answer (Unit {0}) → ℕ → Answer (Unit {0})
 mayBy judged size = pick (goodSize size) judged (refuses 32)
 
 -- In a slice of `whole` bytes: 2 where the place is past its end, then what the record is refused with, then 31 where the
--- room left is under 12 + size; else the next place. A refusal leaves the place as it came.
+-- room left is under a header and the size; else the next place. A refusal leaves the place as it came.
 abbrev pub writeBy : Answer (Unit {0}) → ℕ → ℕ → ℕ → Answer ℕ
 writeBy judged size whole place =
     pick (ltb whole place) (refuses 2)
     (then (mayBy judged size)
-    (λ _. pick (ltb (whole - place) (12 + size)) (refuses 31) (gives (place + 12 + size))))
+    (λ _. pick (ltb (whole - place) (headerSize + size)) (refuses 31) (gives (place + headerSize + size))))
 
 -- a known type has to meet its row
 abbrev pub mayWrite : Order → ℕ → List ℕ → Answer (Unit {0})

@@ -3,6 +3,7 @@ ghost use mathlib.Core.Path.{_≡_};
 ghost use mathlib.Core.List.{_++_};
 ghost use Prim.Native.Nat.{_+_, _*_, _≤_};
 ghost use lib.ListN.{length};
+ghost use Rattle.frame.specs.Place.{frontSize};
 ghost use Rattle.lay.specs.Numbers.{int64};
 ghost use Rattle.lay.specs.Splice.{splice};
 ghost use Rattle.writer.specs.Inner.Data.{wholeSamples};
@@ -11,9 +12,6 @@ ghost use Rattle.writer.specs.Write.{writeBy, laidBy, writtenSaid};
 use crate::Written;
 use body::Fault;
 use num::Order;
-
-// A header and a time.
-pub(crate) const FRONT: usize = 20;
 
 // The answer for `count` numbers of `stride` bytes, in samples of `unit` bytes, and a slice of `whole` bytes. The count is
 // tested before it is multiplied, so that no size overflows.
@@ -43,7 +41,7 @@ fn answer(stride: usize, unit: usize, count: usize, whole: usize, place: usize) 
 
 // The front of a data chunk: its header and its time.
 fn put_front(order: Order, code: u32, size: u32, time: i64, out: &mut [u8], place: usize)
-    requires { ⌜ place + 20 ≤ length (now out) ⌝ }
+    requires { ⌜ place + frontSize ≤ length (now out) ⌝ }
     ensures { λ _. ⌜ now (out .exit) ≡ splice (now (out .entry)) place (headerBytes order code size ++ int64 order time) ⌝ }
 {
     crate::put_header(order, code, size, out, place);

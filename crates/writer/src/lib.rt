@@ -13,6 +13,7 @@ ghost use mathlib.Core.Path.{_≡_};
 ghost use Prim.Native.Nat.{_+_, _≤_, _<_};
 ghost use lib.ListN.{length};
 ghost use Rattle.frame.specs.Frames.{chunkBytes};
+ghost use Rattle.frame.specs.Place.{headerSize};
 ghost use Rattle.lay.specs.Splice.{splice};
 ghost use Rattle.writer.specs.Inner.Write.{headerBytes, isGood};
 ghost use Rattle.writer.specs.Write.{writeOf, writtenOut, writtenSaid};
@@ -29,13 +30,13 @@ pub enum Written {
     BadSize,
     // A body that its type does not allow: numbers 11 to 15.
     Malformed(Fault),
-    // The room left is under 12 + size: number 31.
+    // The room left is under a header and the size: number 31.
     NoRoom,
 }
 
 // A header: sync word, type and size.
 fn put_header(order: Order, code: u32, size: u32, out: &mut [u8], place: usize)
-    requires { ⌜ place + 12 ≤ length (now out) ⌝ }
+    requires { ⌜ place + headerSize ≤ length (now out) ⌝ }
     ensures { λ _. ⌜ now (out .exit) ≡ splice (now (out .entry)) place (headerBytes order code size) ⌝ }
 {
     let words = [frame::SYNC, code, size];
@@ -44,7 +45,7 @@ fn put_header(order: Order, code: u32, size: u32, out: &mut [u8], place: usize)
 
 // A whole chunk: header and body.
 fn put_chunk(order: Order, code: u32, body: &[u8], out: &mut [u8], place: usize)
-    requires { ⌜ place + 12 + length (now body) ≤ length (now out) ⌝ }
+    requires { ⌜ place + headerSize + length (now body) ≤ length (now out) ⌝ }
     requires { ⌜ length (now body) < 4294967296 ⌝ }
     ensures { λ _. ⌜ now (out .exit) ≡ splice (now (out .entry)) place (chunkBytes order code (now (body .entry))) ⌝ }
 {

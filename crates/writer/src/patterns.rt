@@ -28,7 +28,7 @@ fn write(
     let count = samples.len();
     let answered = crate::data::begin(order, code, 4, unit, count, time, out, place);
     if let Written::Next(_) = answered {
-        lay::words(order, samples, out, place + crate::data::FRONT);
+        lay::words(order, samples, out, place + frame::FRONT);
     }
     answered
 }

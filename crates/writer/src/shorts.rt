@@ -28,7 +28,7 @@ fn write(
     let count = samples.len();
     let answered = crate::data::begin(order, code, 2, unit, count, time, out, place);
     if let Written::Next(_) = answered {
-        lay::shorts(order, samples, out, place + crate::data::FRONT);
+        lay::shorts(order, samples, out, place + frame::FRONT);
     }
     answered
 }

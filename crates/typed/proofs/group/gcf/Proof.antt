@@ -28,8 +28,8 @@ at-most-requires-2 c κs = search needs
 cast-t14 : tie.Need-cast-t14
 cast-t14 c = search needs
 
-slice-aggregate-given : tie.Need-slice-aggregate-given
-slice-aggregate-given c = search needs
+slice-aggregate-list : tie.Need-slice-aggregate-list
+slice-aggregate-list c = search needs
 
 slice-aggregate-words : tie.Need-slice-aggregate-words
 slice-aggregate-words c = search needs
@@ -95,7 +95,7 @@ gcf-spec =
     at-most-requires
     at-most-requires-2
     cast-t14
-    slice-aggregate-given
+    slice-aggregate-list
     slice-aggregate-words
     slice-aggregate-words-2
     words-requires

@@ -30,8 +30,8 @@ cast-t14 c = search needs
 packing-of-requires : tie.Need-packing-of-requires
 packing-of-requires c κs = search needs
 
-slice-aggregate-given : tie.Need-slice-aggregate-given
-slice-aggregate-given c = search needs
+slice-aggregate-list : tie.Need-slice-aggregate-list
+slice-aggregate-list c = search needs
 
 slice-aggregate-words : tie.Need-slice-aggregate-words
 slice-aggregate-words c = search needs
@@ -100,7 +100,7 @@ giqp-spec =
     at-most-requires-2
     cast-t14
     packing-of-requires
-    slice-aggregate-given
+    slice-aggregate-list
     slice-aggregate-words
     slice-aggregate-words-2
     words-requires
