@@ -1,5 +1,5 @@
-//! A reader, a writer, a file check and a listing for PXGF streams, written
-//! from the paper rules with the standard library alone.
+//! PXGF streams read, written, checked and listed, by the paper rules and
+//! with the standard library alone.
 //!
 //! The layers, from the bytes upwards: [`order`] reads numbers, [`search`]
 //! finds sync words, [`frame`] judges one place, [`walk`] cuts a stream into

@@ -106,7 +106,7 @@ pub no-refused-file : (κs : Lfts 1) (r : FileChecked) → Allows check.Post κs
 unfolding fileFrom framesBy gap shows starts kindOf kindIn known verdict partOf shaped
 no-refused-file κs r h = file-told r (Good 2) (h .1)
 
--- ---- one that gives the same item for all streams
+-- ---- one and the same item for every stream
 
 pub no-constant-item : (κs : Lfts 1) (r r′ : Stepped) → r .item ≡ r′ .item → Steps κs newCursor [] r → Steps κs newCursor iqdc r′ → ⊥
 unfolding stepOf gap shows starts kindOf kindIn known effect
@@ -115,7 +115,7 @@ no-constant-item κs r r′ i h h′ =
     let z : _≡_ {A = ℕ} 0 1 = cc in
     absurd (omega arith)
 
--- ---- one that moves no cursor and copies no sample
+-- ---- a cursor that stays where it is, and samples that are not copied
 
 -- before the end the cursor moves on, whatever the stream, where number 3 is not due
 pub no-resting-cursor : (κs : Lfts 1) (a : _) (r : Stepped) → Allows step.Post κs a r → a .0 .place < length (a .1 .1 .0 .now) → unfit (a .0) ≡ false → a .0 .place < r .cursor .place
@@ -153,7 +153,7 @@ pub no-lost-pattern : (κs : Lfts 2) (r : Copied) (h : Allows patterns.Post κs 
 unfolding countOf layoutAt realsOf shaped stepOf goodValues goodLists goodFrom ofBits lt shows starts kindOf kindIn known effect
 no-lost-pattern κs r h = (copied-told r (Count 1) (h .1 .0), h .1 .1)
 
--- ---- one that tracks the state for the first chunk and repeats it
+-- ---- what the first chunk does to the state, taken for what every chunk does
 
 -- an SR__ chunk, and an SSNR chunk with two reals
 abbrev pub rate : ℕ → List ℕ

@@ -68,7 +68,7 @@ table =
     ∷ record { bytes = four 1; holds = grouped (bad 16) } ∷ [])
     ∷ []
 
--- the example of the listing: 00 A1 B2; CF__ with 1000; IQDC; type 41424344; SSNC with time 5 and the pair 1, -1; 00 00
+-- the example of the listing: 00 A1 B2; a CF__ of 1000; an IQDC; a type that no kind has; an SSNC, time 5, pair 1, -1; 00 00
 unfoldable pub example : List ℕ
 example =
     (0 ∷ 0xA1 ∷ 0xB2 ∷ [])

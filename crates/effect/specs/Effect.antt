@@ -36,7 +36,7 @@ met a s = record { says = judged a; shown = noState; after = s }
 abbrev pub dataEffect : Says → Values → State → Effect
 dataEffect says shows s = record { says = says; shown = pick (isReady says) (withValues s shows) noState; after = withMark s (pick (isReady says) false true) }
 
--- data of a shape, with the values that it came to
+-- data of a shape: the values decide whether it is ready, and are what it shows, those of a group as a group shows them
 abbrev pub sampled : Shape → Answer Data → State → Effect
 sampled shape a s = dataEffect (saysOf shape a (s .values)) (pick (ofGroup shape) (inGroup (s .values)) (s .values)) s
 

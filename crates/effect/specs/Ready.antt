@@ -35,8 +35,8 @@ covering g (bad n) = bad n
 covering g (waits n t) = waits n t
 covering g (ready d) = pick (groupCovers (d .samples) (g .n) (g .increment) (g .offsets)) (ready d) (bad 16)
 
--- What is said of a data chunk with these values, by the shape of its samples: pairs wait for the packing, those of a group
--- for the group packing, and floats for their full scale.
+-- What is said of a data chunk with these values, by the shape of its samples. Every shape needs the sample rate; pairs need the
+-- packing too, a group's the group packing, and floats their full scale. What a shape does not need, it does not lack.
 abbrev pub saysOf : Shape → Answer Data → Values → Says
 saysOf ShortPairs a v = dataSays a (v .packing .present) (v .rate .present) true
 saysOf ShortReals a v = dataSays a true (v .rate .present) true

@@ -34,7 +34,7 @@ run-ending o x l c f m calls r k i = rw (← as-alone o x l c f k .step) (run-to
 module _ (o : Order) (x y l : List ℕ) (c d : Cursor)
     (f : AcceptsFirstAt o (x ++ l) c (length x)) (g : AcceptsFirstAt o (y ++ l) d (length y))
     (m n : ℕ) (calls others : ℕ → StepCall) (r : Run m o (x ++ l) c calls) (q : Run n o (y ++ l) d others) where
-  -- from there on their answers are the same, places counted from the start of the ending
+  -- from there on they answer the same, with places counted from where the ending starts
   pub runs-agree : (k : ℕ) → lead (length x) c + k < m → lead (length y) d + k < n →
       SameAnswers (length x) (calls (lead (length x) c + k) .result) (length y) (others (lead (length y) d + k) .result)
   runs-agree k i j = record { step = stepOf o l (after k o l newCursor); one = run-ending o x l c f m calls r k i; other = run-ending o y l d g n others q k j }
@@ -61,7 +61,7 @@ module _ (o : Order) (x y l : List ℕ) (c d : Cursor)
 
 -- ---- a run that starts at a new cursor
 
--- no sync word starts in the beginning, and the ending starts with a complete chunk: it accepts that chunk first
+-- no sync word starts in the beginning, and a complete chunk stands at the start of the ending: it is accepted first
 pub new-first : (o : Order) (x l : List ℕ) (code size : ℕ) → Clean o x l → shows o l ≡ Complete code size → (start : NewCall) → AcceptsFirstAt o (x ++ l) (start .result) (length x)
 new-first o x l code size h e start = rw (new-met start) (clean-beginning-first o x l code size h e newCursor refl (omega arith))
 

@@ -67,7 +67,7 @@ module _ (o : Order) (x l : List ℕ) (c : Cursor) (f : AcceptsFirstAt o (x ++ l
 -- Two streams with one ending, in which the first chunk that each reader accepts begins the ending.
 module _ (o : Order) (x y l : List ℕ) (c d : Cursor)
     (f : AcceptsFirstAt o (x ++ l) c (length x)) (g : AcceptsFirstAt o (y ++ l) d (length y)) where
-  -- all items from there on are the same, places counted from the start of the ending
+  -- from there on both give the same items, with places counted from where the ending starts
   pub common-ending : map (givenBy (since (length x))) (givenOn o (x ++ l) c) ≡ map (givenBy (since (length y))) (givenOn o (y ++ l) d)
   common-ending = ending-alone o x l c f ∙ sym (ending-alone o y l d g)
 
@@ -83,8 +83,8 @@ module _ (o : Order) (x y l : List ℕ) (c d : Cursor)
   pub same-samples : (k : ℕ) → SameCopies o (x ++ l) (later k o (x ++ l) (length x) c) (y ++ l) (later k o (y ++ l) (length y) d)
   same-samples k = copies-trans (samples-alone o x l c f k) (copies-sym (samples-alone o y l d g k))
 
--- No sync word starts in the beginning, and the ending starts with a complete chunk: a searching reader anywhere in the
--- beginning accepts that chunk first.
+-- No sync word starts in the beginning, and a complete chunk stands at the start of the ending: a searching reader anywhere in
+-- the beginning accepts it first.
 module _ (o : Order) (x l : List ℕ) (code size : ℕ) (h : Clean o x l) (e : shows o l ≡ Complete code size) (c : Cursor)
     (k : c .«in_step» ≡ false) (q : c .place ≤ length x) where
   pub clean-beginning-first : AcceptsFirstAt o (x ++ l) c (length x)

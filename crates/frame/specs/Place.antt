@@ -49,12 +49,12 @@ typeIn o l = word o (drop 4 l)
 abbrev pub sizeIn : Order → List ℕ → ℕ
 sizeIn o l = word o (drop 8 l)
 
--- a size is good: at most 69,632, and a multiple of 4
+-- a size is good up to 69,632, where 4 divides it
 abbrev pub goodSize : ℕ → Bool
 goodSize n = both (leb n sizeLimit) (eqb (n % 4) 0)
 
--- No sync; or unfinished, the header not whole; or bad, the size not good; or unfinished, the body running past the end;
--- or complete.
+-- No sync; or unfinished, fewer than 12 bytes being left; or bad, the size not good; or unfinished, the body not whole; or
+-- complete.
 unfoldable pub shows : Order → List ℕ → At
 shows o l =
     pick (starts (syncBytes o) l)

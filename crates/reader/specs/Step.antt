@@ -53,7 +53,7 @@ refused n c = record { item = refuses n; shown = noState; cursor = c }
 abbrev pub skips : Cursor → ℕ → Step
 skips c g = record { item = gives (skipped (c .place) g); shown = noState; cursor = cursorAt (c .place + g) false (c .state) }
 
--- an unfinished end is one item, and the cursor moves to the end and is otherwise as it came
+-- an unfinished end is one item; the cursor is then at the end, in step or searching as before and with the same state
 abbrev pub cuts : Cursor → ℕ → Step
 cuts c n = record { item = gives (unfinished (c .place) n); shown = noState; cursor = cursorAt (c .place + n) (c .«in_step») (c .state) }
 
@@ -65,7 +65,7 @@ accepts c code size e = record {
   cursor = cursorAt (c .place + headerSize + size) true (e .after);
 }
 
--- by what is ahead, l being the bytes from the place on; with none left the answer is End, the cursor as it came
+-- by what is ahead, l being the bytes from the place on; where there are none it answers End and leaves the cursor
 abbrev pub stepBy : Order → List ℕ → Cursor → Ahead → Step
 stepBy o l c End = record { item = gives end; shown = noState; cursor = c }
 stepBy o l c (Chunk code size) = accepts c code size (effect o (kindOf code) (take size (drop headerSize l)) (before (c .«in_step») (c .state)))

@@ -1,4 +1,4 @@
-// The reader: a cursor that steps through a stream held in one lent slice.
+// The reader: a cursor that goes through a lent stream, one item at a step.
 ghost use mathlib.Core.Bool.{true};
 ghost use mathlib.Core.Path.{_≡_};
 ghost use Prim.Native.Nat.{_+_, _-_, _^_, _<_, _≤_};

@@ -151,7 +151,7 @@ all-taken : (o : Order) (rs : List Record) → Each GoodSized rs → Each (WellF
 all-taken o [] g h = tt
 all-taken o (r ∷ rs) g h = (rw (g .0) (h .0), all-taken o rs (g .1) (h .1))
 
--- A stream of complete chunks, none refused with 11 to 15, is written back byte for byte into a slice with room for it.
+-- A stream that is nothing but complete and well-formed chunks is written back, each byte as it was, into a slice with room for it.
 pub stream-written-back : (o : Order) (s d : List ℕ) → Bytes s → Each IsChunk (frames o s) → Each (WellFormed o) (recordsOf (frames o s)) → length s ≤ length d →
     writeAll o (recordsOf (frames o s)) d 0 ≡ record { slice = splice d 0 s; place = gives (length s) }
 stream-written-back o s d g h v f =
