@@ -181,7 +181,7 @@ pub extern "C" fn bench_shorts(
 {
     let by = order_by(order);
     let walked = walk(by, s, steps);
-    count_of(samples::shorts::copy(by, s, walked.cursor, channel, out))
+    count_of(samples::shorts_at(by, s, walked.cursor, channel, out))
 }
 
 // The same of 32-bit patterns.
@@ -198,5 +198,5 @@ pub extern "C" fn bench_patterns(
 {
     let by = order_by(order);
     let walked = walk(by, s, steps);
-    count_of(samples::patterns::copy(by, s, walked.cursor, channel, out))
+    count_of(samples::patterns_at(by, s, walked.cursor, channel, out))
 }

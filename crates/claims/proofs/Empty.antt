@@ -48,8 +48,8 @@ use Rattle.samples.specs.declared.Copied.{Copied}
 use Rattle.samples.specs.declared.Copied.the-variants.{Count}
 use Rattle.samples.proofs.AtCursor.{stands}
 use Rattle.samples.proofs.Theorems.{copied-told}
-use Rattle.samples.proofs.patterns.copy.Reads as patterns
-use Rattle.samples.proofs.shorts.copy.Reads as shorts
+use Rattle.samples.proofs.patterns.patterns_at.Reads as patterns
+use Rattle.samples.proofs.shorts.shorts_at.Reads as shorts
 use Rattle.filecheck.specs.File.{partOf, fileFrom}
 use Rattle.filecheck.specs.declared.FileChecked.{FileChecked}
 use Rattle.filecheck.specs.declared.FileChecked.the-variants.{Good}

@@ -25,10 +25,10 @@ use Rattle.reader.proofs.Cursor.step.Kinds as step
 use Rattle.reader.proofs.Cursor.step.Reads as stepReads
 use Rattle.samples.specs.Copy.{copiedSaid, layoutAt, countOf, samplesAt, filled}
 use Rattle.samples.specs.declared.Copied.{Copied}
-use Rattle.samples.proofs.shorts.copy.Kinds as shorts
-use Rattle.samples.proofs.shorts.copy.Reads as shortsReads
-use Rattle.samples.proofs.patterns.copy.Kinds as patterns
-use Rattle.samples.proofs.patterns.copy.Reads as patternsReads
+use Rattle.samples.proofs.shorts.shorts_at.Kinds as shorts
+use Rattle.samples.proofs.shorts.shorts_at.Reads as shortsReads
+use Rattle.samples.proofs.patterns.patterns_at.Kinds as patterns
+use Rattle.samples.proofs.patterns.patterns_at.Reads as patternsReads
 
 -- a call of a function: what it was given, its result, what it was given as it is at the end, and that its promise is met
 pub record Call (n : ℕ) (ps : List (PK n)) (r : RK n) (promise : Out n ps r) : Type 0 where

@@ -14,7 +14,7 @@ use Rattle.lay.specs.Numbers.{int16, int64}
 use Rattle.lay.specs.Runs.{runOf}
 use Rattle.lay.proofs.Values.{run-at}
 use Rattle.copy.specs.Samples.{shortAt, patternAt}
-use Rattle.samples.specs.Inner.Plan.{wide}
+use Rattle.samples.specs.Inner.Plan.{numberBytes}
 
 abbrev pub Number : Bool → Type 0
 Number true = ℕ
@@ -43,7 +43,7 @@ AllFit false xs = (i : ℕ) → SFits w16 (getD xs i (pos 0))
 abbrev pub bodyOf : (float : Bool) → Order → ℤ → List (Number float) → List ℕ
 bodyOf float o time xs = int64 o time ++ runOf (bytesOne float o) xs
 
-pub one-length : (float : Bool) (o : Order) (x : Number float) → length (bytesOne float o x) ≡ wide float
+pub one-length : (float : Bool) (o : Order) (x : Number float) → length (bytesOne float o x) ≡ numberBytes float
 one-length true o x = bytes-length o 4 x
 one-length false o x = bytes-length o 2 (ofZ w16 x)
 

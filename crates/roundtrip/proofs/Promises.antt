@@ -5,8 +5,8 @@ use mathlib.Core.Bool.{true, false}
 use mathlib.Core.List.{List}
 use lib.IntN.{ℤ, pos}
 use lib.ListN.{getD}
-use Rattle.samples.proofs.patterns.copy.Reads as patterns
-use Rattle.samples.proofs.shorts.copy.Reads as shorts
+use Rattle.samples.proofs.patterns.patterns_at.Reads as patterns
+use Rattle.samples.proofs.shorts.shorts_at.Reads as shorts
 use Rattle.roundtrip.proofs.Theorems.{Here, leftWith, copied-back}
 
 -- The arguments are the order, the stream, the cursor, the channel and the slice.

@@ -25,7 +25,7 @@ use Rattle.state.specs.declared.State.{State}
 use Rattle.body.specs.Table.{shaped}
 use Rattle.samples.specs.Layout.{layout, paired, real, member, valuesOf}
 use Rattle.samples.specs.Copy.{countOf}
-use Rattle.samples.specs.Inner.Plan.{wide}
+use Rattle.samples.specs.Inner.Plan.{numberBytes}
 use Rattle.samples.proofs.Ready.{bytesIn}
 use Rattle.roundtrip.proofs.Numbers.{Number, none}
 use Rattle.roundtrip.proofs.Values.{reals-list, pairs-list}
@@ -60,17 +60,17 @@ unfolding shaped kindOf kindIn known
 group-layout true channel s d h = rw (lt-ltb channel (s .values .group .n) h)
 group-layout false channel s d h = rw (lt-ltb channel (s .values .group .n) h)
 
-real-count : (float : Bool) (n m : ℕ) → n * wide float ≡ m * bytesIn (shaped (kindOf (codeOf (realKind float)))) → n ≡ m
+real-count : (float : Bool) (n m : ℕ) → n * numberBytes float ≡ m * bytesIn (shaped (kindOf (codeOf (realKind float)))) → n ≡ m
 unfolding shaped kindOf kindIn known
 real-count true n m e = omega arith
 real-count false n m e = omega arith
 
-pair-count : (float : Bool) (n m : ℕ) → n * wide float ≡ m * bytesIn (shaped (kindOf (codeOf (pairKind float)))) → n ≡ 2 * m
+pair-count : (float : Bool) (n m : ℕ) → n * numberBytes float ≡ m * bytesIn (shaped (kindOf (codeOf (pairKind float)))) → n ≡ 2 * m
 unfolding shaped kindOf kindIn known
 pair-count true n m e = omega arith
 pair-count false n m e = omega arith
 
-group-count : (float : Bool) (n m : ℕ) → n * wide float ≡ m * bytesIn (shaped (kindOf (codeOf (groupKind float)))) → n ≡ 2 * m
+group-count : (float : Bool) (n m : ℕ) → n * numberBytes float ≡ m * bytesIn (shaped (kindOf (codeOf (groupKind float)))) → n ≡ 2 * m
 unfolding shaped kindOf kindIn known
 group-count true n m e = omega arith
 group-count false n m e = omega arith

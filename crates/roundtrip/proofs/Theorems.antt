@@ -31,11 +31,10 @@ use Rattle.state.specs.declared.State.{State}
 use Rattle.body.specs.Table.{shaped}
 use Rattle.samples.specs.Layout.{layout, numbers, valuesOf}
 use Rattle.samples.specs.Copy.{layoutIn, layoutBy, layoutAt, countOf, samplesAt, filled}
-use Rattle.samples.specs.Inner.Plan.{wide, lies}
-use Rattle.samples.specs.declared.Laid.the-variants as laid
+use Rattle.samples.specs.Inner.Plan.{numberBytes, lies}
 use Rattle.samples.specs.declared.Layout.{Layout}
 use Rattle.samples.proofs.AtCursor.{stands}
-use Rattle.samples.proofs.Plans.{plan-chunk}
+use Rattle.samples.proofs.Plans.{step-lies}
 use Rattle.samples.proofs.Ready.{bytesIn, effect-ready}
 use Rattle.lay.specs.Numbers.{int64}
 use Rattle.lay.specs.Runs.{runOf}
@@ -113,14 +112,14 @@ module _ (float : Bool) (o : Order) (s : List ℕ) (c : Cursor) (code : ℕ) (ti
       rw (e, q, m) (take-at ys (h .rest) (length ys) refl)
 
   lie : (channel : ℕ) (l : Layout) → layoutAt float o s c channel ≡ gives l →
-      (samplesAt o s c ≡ runOf (bytesOne float o) xs) × (lies (wide float) (length xs * wide float) l ≡ true)
+      (samplesAt o s c ≡ runOf (bytesOne float o) xs) × (lies (numberBytes float) (length xs * numberBytes float) l ≡ true)
   unfolding layoutAt
   lie channel l e =
       let i = by-item float channel (stepOf o s c .shown) (stepOf o s c .item) l e in
       let b = chunk-is (i .0) (i .1) (i .2) (i .3) (i .4) in
-      let n : i .2 - 8 ≡ length xs * wide float = omega (arith, b .1, body-length (bytesOne float o) (wide float) (one-length float o) o time xs) in
-      let k = plan-chunk float o s c channel (i .0) (i .1) (i .2) (i .3) (i .4) (laid.At l) (sym (i .5)) in
-      (samples-back (i .0) (i .1) (i .2) (i .3) (i .4), rw n at (k .1 .3))
+      let n : i .2 - 8 ≡ length xs * numberBytes float = omega (arith, b .1, body-length (bytesOne float o) (numberBytes float) (one-length float o) o time xs) in
+      let k = step-lies float o s c channel (i .0) (i .1) (i .2) (i .3) (i .4) l (i .5) in
+      (samples-back (i .0) (i .1) (i .2) (i .3) (i .4), rw n at k)
 
   -- the values of a layout are numbers of the record
   values-back : (channel : ℕ) (l : Layout) → layoutAt float o s c channel ≡ gives l → valuesOf (valueAt float o (samplesAt o s c)) l ≡ valuesOf (λ k. getD xs k (none float)) l
@@ -171,9 +170,9 @@ module _ (float : Bool) (o : Order) (s : List ℕ) (c : Cursor) (code : ℕ) (ti
   unfolding layoutAt
   ready-layout p k size d channel e = let q = chunk-is p k size (ready d) e .0 in rw (e, q)
 
-  pub ready-count : (p k size : ℕ) (d : Data) → stepOf o s c .item ≡ gives (chunk p k size (ready d)) → length xs * wide float ≡ d .samples * bytesIn (shaped (kindOf code))
+  pub ready-count : (p k size : ℕ) (d : Data) → stepOf o s c .item ≡ gives (chunk p k size (ready d)) → length xs * numberBytes float ≡ d .samples * bytesIn (shaped (kindOf code))
   ready-count p k size d e =
       let t = stands o c p k size (ready d) s e in
       let q = chunk-is p k size (ready d) e in
       let r = rw (q .0) at (effect-ready o _ _ d (kindOf k) (t .said) .size) in
-      omega (arith, q .1, r, chunk-size o s (c .place) k size (t .here), body-length (bytesOne float o) (wide float) (one-length float o) o time xs)
+      omega (arith, q .1, r, chunk-size o s (c .place) k size (t .here), body-length (bytesOne float o) (numberBytes float) (one-length float o) o time xs)

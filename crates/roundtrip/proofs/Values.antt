@@ -13,7 +13,7 @@ use Rattle.copy.specs.Samples.{placeOf, iOf, qOf, pairsOf, realsOf, inside, pai
 use Rattle.copy.proofs.Fits.{pair-inside}
 use Rattle.copy.proofs.Laws.{length-pairs}
 use Rattle.samples.specs.Layout.{valuesOf}
-use Rattle.samples.specs.Inner.Plan.{wide, lies}
+use Rattle.samples.specs.Inner.Plan.{numberBytes, lies}
 use Rattle.samples.specs.declared.Layout.{Layout}
 
 -- both numbers of a pair
@@ -35,25 +35,25 @@ module _ {A : Type 0} (f g : ℕ → A) (m : ℕ) (same : (k : ℕ) → k < m �
   reals-same (suc n) h = rw (reals-same n (omega arith), same n (omega arith))
 
   -- a pair that lies inside m numbers
-  pair-below : (float : Bool) (p : ℕ) → (p + 1) * (2 * wide float) ≤ m * wide float → 2 * p + 1 < m
+  pair-below : (float : Bool) (p : ℕ) → (p + 1) * (2 * numberBytes float) ≤ m * numberBytes float → 2 * p + 1 < m
   pair-below true p h = omega arith
   pair-below false p h = omega arith
 
-  real-below : (float : Bool) (n : ℕ) → n * wide float ≤ m * wide float → n ≤ m
+  real-below : (float : Bool) (n : ℕ) → n * numberBytes float ≤ m * numberBytes float → n ≤ m
   real-below true n h = omega arith
   real-below false n h = omega arith
 
-  same-by : (float : Bool) (l : Layout) (b : Bool) → l .pairs ≡ b → lies (wide float) (m * wide float) l ≡ true → valuesOf f l ≡ valuesOf g l
+  same-by : (float : Bool) (l : Layout) (b : Bool) → l .pairs ≡ b → lies (numberBytes float) (m * numberBytes float) l ≡ true → valuesOf f l ≡ valuesOf g l
   same-by float l true p h =
-      let q : each (λ j. inside (wide float) (m * wide float) (placeOf (l .first) (l .step) j)) (l .count) ≡ true = rw p at h in
-      let fits : pairsFit (wide float) (m * wide float) (l .first) (l .step) (l .count) (2 * l .count) ≡ true = rw q (le-leb (2 * l .count) (2 * l .count) (omega arith)) in
-      rw p (pairs-same (l .iq) (l .first) (l .step) (l .count) (λ j i. pair-below float (placeOf (l .first) (l .step) j) (pair-inside (wide float) (m * wide float) (l .first) (l .step) (l .count) (2 * l .count) fits j i)))
+      let q : each (λ j. inside (numberBytes float) (m * numberBytes float) (placeOf (l .first) (l .step) j)) (l .count) ≡ true = rw p at h in
+      let fits : pairsFit (numberBytes float) (m * numberBytes float) (l .first) (l .step) (l .count) (2 * l .count) ≡ true = rw q (le-leb (2 * l .count) (2 * l .count) (omega arith)) in
+      rw p (pairs-same (l .iq) (l .first) (l .step) (l .count) (λ j i. pair-below float (placeOf (l .first) (l .step) j) (pair-inside (numberBytes float) (m * numberBytes float) (l .first) (l .step) (l .count) (2 * l .count) fits j i)))
   same-by float l false p h =
-      let q : leb (l .count * wide float) (m * wide float) ≡ true = rw p at h in
-      rw p (reals-same (l .count) (real-below float (l .count) (leb-true (l .count * wide float) (m * wide float) q)))
+      let q : leb (l .count * numberBytes float) (m * numberBytes float) ≡ true = rw p at h in
+      rw p (reals-same (l .count) (real-below float (l .count) (leb-true (l .count * numberBytes float) (m * numberBytes float) q)))
 
   -- Numbers that agree below m give the same values, where the layout lies inside m numbers.
-  pub values-same : (float : Bool) (l : Layout) → lies (wide float) (m * wide float) l ≡ true → valuesOf f l ≡ valuesOf g l
+  pub values-same : (float : Bool) (l : Layout) → lies (numberBytes float) (m * numberBytes float) l ≡ true → valuesOf f l ≡ valuesOf g l
   values-same float l h = same-by float l (l .pairs) refl h
 
 -- ---- which numbers they are

@@ -25,10 +25,10 @@ use Rattle.state.specs.State.{emptied}
 use Rattle.state.specs.declared.State.{State}
 use Rattle.samples.specs.Layout.{layout}
 use Rattle.samples.specs.Copy.{layoutIn}
-use Rattle.samples.specs.Inner.Plan.{layoutOf}
 use Rattle.samples.proofs.Ready.{effect-ready}
 
-data-ready : (says : Says) (d : Data) → gives d ≡ readyData says → says ≡ ready d
+-- data that is asked for and given is what the chunk says of itself
+pub data-ready : (says : Says) (d : Data) → gives d ≡ readyData says → says ≡ ready d
 data-ready ok d e = let z : _≡_ {A = ℕ} 0 1 = cc in absurd (omega arith)
 data-ready unknown d e = let z : _≡_ {A = ℕ} 0 1 = cc in absurd (omega arith)
 data-ready (bad n) d e = let z : _≡_ {A = ℕ} 0 1 = cc in absurd (omega arith)
@@ -49,23 +49,19 @@ layout-by float NoSamples channel x y d p g = refl
 -- data that is given to copy lies as the state says that the chunk came to
 pub given-lies : (o : Order) (code : ℕ) (body : List ℕ) (s : State) (float : Bool) (channel : ℕ) (d : Data) →
     gives d ≡ readyData (effect o (kindOf code) body s .says) →
-    layout float (shaped (kindOf code)) channel s d ≡ layoutOf float channel code (effect o (kindOf code) body s)
+    layout float (shaped (kindOf code)) channel s d ≡ layoutIn float channel (effect o (kindOf code) body s .shown) (effect o (kindOf code) body s .says) code
 given-lies o code body s float channel d e =
     let r = data-ready (effect o (kindOf code) body s .says) d e in
     let h = effect-ready o body s d (kindOf code) r in
     rw r (sym (layout-by float (shaped (kindOf code)) channel (effect o (kindOf code) body s .shown) s d (h .packing) (h .group)))
 
 -- where there is no data to copy, there is no place of it
-none-in : (float : Bool) (channel : ℕ) (shown : State) (says : Says) (code : ℕ) → refuses 35 ≡ readyData says → refuses 35 ≡ layoutIn float channel shown says code
-none-in float channel shown ok code e = refl
-none-in float channel shown unknown code e = refl
-none-in float channel shown (bad n) code e = refl
-none-in float channel shown (waits n t) code e = refl
-none-in float channel shown (ready d) code e = let z : _≡_ {A = ℕ} 0 1 = cc in absurd (omega arith)
-
-pub none-lies : (o : Order) (code : ℕ) (body : List ℕ) (s : State) (float : Bool) (channel : ℕ) →
-    refuses 35 ≡ readyData (effect o (kindOf code) body s .says) → refuses 35 ≡ layoutOf float channel code (effect o (kindOf code) body s)
-none-lies o code body s float channel e = none-in float channel (effect o (kindOf code) body s .shown) (effect o (kindOf code) body s .says) code e
+pub none-lies : (float : Bool) (channel : ℕ) (shown : State) (says : Says) (code : ℕ) → refuses 35 ≡ readyData says → refuses 35 ≡ layoutIn float channel shown says code
+none-lies float channel shown ok code e = refl
+none-lies float channel shown unknown code e = refl
+none-lies float channel shown (bad n) code e = refl
+none-lies float channel shown (waits n t) code e = refl
+none-lies float channel shown (ready d) code e = let z : _≡_ {A = ℕ} 0 1 = cc in absurd (omega arith)
 
 -- without a sample rate no data is ready
 unrated : (a : Answer Data) (p t : Bool) → refuses 35 ≡ readyData (dataSays a p false t)

@@ -19,16 +19,22 @@ use Rattle.body.specs.Kind.{kindOf}
 use Rattle.effect.specs.Says.{Says}
 use Rattle.effect.specs.Effect.{Effect, effect}
 use Rattle.state.specs.Good.{goodState}
+use Rattle.state.specs.declared.State.{State}
 use Rattle.reader.specs.Item.{chunk}
 use Rattle.reader.specs.Step.{Step, before, refused, accepts, stepBy, stepOf}
 use Rattle.reader.specs.declared.Cursor.{Cursor}
 
--- the effect of the chunk that l, ahead of the cursor, begins with
+-- the effect on a state of the chunk that l begins with
+abbrev pub effectIn : Order → List ℕ → ℕ → ℕ → State → Effect
+effectIn o l code size state = effect o (kindOf code) (take size (drop 12 l)) state
+
+-- and where l is ahead of the cursor
 abbrev pub effectOf : Order → List ℕ → Cursor → ℕ → ℕ → Effect
-effectOf o l c code size = effect o (kindOf code) (take size (drop 12 l)) (before (c .«in_step») (c .state))
+effectOf o l c code size = effectIn o l code size (before (c .«in_step») (c .state))
 
 pub record Stands (o : Order) (l : List ℕ) (c : Cursor) (t : Step) (code size : ℕ) (says : Says) : Type 0 where
   pub here : shows o l ≡ Complete code size
+  pub ahead : aheadOf o l ≡ Chunk code size
   pub step : t ≡ accepts c code size (effectOf o l c code size)
   pub said : effectOf o l c code size .says ≡ says
 
@@ -38,7 +44,7 @@ module _ (o : Order) (c : Cursor) (p code size : ℕ) (says : Says) where
       let i : k ≡ code = cc in
       let j : n ≡ size = cc in
       let q : effectOf o l c k n .says ≡ says = cc in
-      record { here = is-chunk o l k n h ∙ rw (i, j); step = rw (i, j); said = rw (← i, ← j) q }
+      record { here = is-chunk o l k n h ∙ rw (i, j); ahead = h ∙ rw (i, j); step = rw (i, j); said = rw (← i, ← j) q }
   stands-by l Cut h e = let z : _≡_ {A = ℕ} 0 1 = cc in absurd (omega arith)
   stands-by l Stretch h e = let z : _≡_ {A = ℕ} 0 1 = cc in absurd (omega arith)
   stands-by l End h e = let z : _≡_ {A = ℕ} 0 1 = cc in absurd (omega arith)

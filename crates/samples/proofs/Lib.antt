@@ -4,6 +4,10 @@ pub mod Asked
 pub mod AtCursor
 pub mod Lies
 pub mod Plans
-pub mod Puts
+pub mod There
+pub mod Fills
 pub mod Copies
 pub mod Theorems
+pub mod Again
+pub mod AsAtCursor
+pub mod First

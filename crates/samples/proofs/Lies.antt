@@ -15,7 +15,7 @@ use Rattle.body.specs.declared.sampled.Data.{Data}
 use Rattle.copy.specs.Samples.{inside, placeOf}
 use Rattle.cover.proofs.Theorems.{group-says}
 use Rattle.state.specs.declared.State.{State}
-use Rattle.samples.specs.Inner.Plan.{wide, lies}
+use Rattle.samples.specs.Inner.Plan.{numberBytes, lies}
 use Rattle.samples.specs.Layout.{alone, paired, real, member, oneOf, layout}
 use Rattle.samples.specs.declared.Layout.{Layout}
 use Rattle.body.specs.declared.sampled.Shape.the-variants.{ShortPairs, ShortReals, ShortGroup, FloatPairs, FloatReals, FloatGroup}
@@ -49,7 +49,7 @@ module _ (channel : ℕ) (body : List ℕ) (s : State) (d : Data) (l : Layout) w
       let g = group-says (d .samples) (s .values .group .n) (s .values .group .increment) (s .values .group .offsets) k in
       rw (← h .1) (each-all (λ (j : ℕ). inside w (length body - 8) (placeOf (getD (s .values .group .offsets) channel 0) (s .values .group .increment) j)) (d .samples / s .values .group .n) (λ j q. inside-of w (length body - 8) (placeOf (getD (s .values .group .offsets) channel 0) (s .values .group .increment) j) (d .samples) (omega arith) (g .cover .each .inside channel j (ltb-true channel (s .values .group .n) (h .0)) q)))
 
-  pub layout-lies : {was : State} (float : Bool) (shaped : Shaped) → IsReady shaped body d was s → layout float shaped channel s d ≡ gives l → lies (wide float) (length body - 8) l ≡ true
+  pub layout-lies : {was : State} (float : Bool) (shaped : Shaped) → IsReady shaped body d was s → layout float shaped channel s d ≡ gives l → lies (numberBytes float) (length body - 8) l ≡ true
   layout-lies false (Samples ShortPairs) r e = pairs-lie 2 (r .size) e
   layout-lies false (Samples ShortReals) r e = reals-lie 2 (r .size) e
   layout-lies false (Samples ShortGroup) r e = group-lies 2 (r .size) (r .cover) e

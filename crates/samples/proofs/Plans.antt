@@ -1,10 +1,11 @@
--- What a chunk that a step gives tells of its samples.
-use Prim.Native.Nat.{ℕ}
+-- What a chunk tells of its samples.
+use Prim.Native.Nat.{ℕ, _+_, _-_, _≤_}
 use mathlib.Core.Path.{_≡_, refl, sym, ap, _∙_}
-use mathlib.Core.Bool.{Bool, false}
+use mathlib.Core.Bool.{Bool, true, false}
 use mathlib.Core.List.{List}
 use native.Mathlib.Omega.{arith}
-use lib.ListN.{length, take, drop}
+use lib.ListN.{length, take, drop, length-drop}
+use lib.Seq.{drop-drop, length-take-le}
 use Rattle.num.specs.Answer.{Answer, gives, refuses}
 use Rattle.num.specs.declared.Order.{Order}
 use Rattle.frame.specs.Ahead.{isChunk}
@@ -14,29 +15,41 @@ use Rattle.body.specs.Kind.{kindOf}
 use Rattle.body.specs.Table.{shaped}
 use Rattle.body.specs.declared.sampled.Data.{Data}
 use Rattle.effect.specs.Says.{Says, ok, unknown, bad, waits, ready}
+use Rattle.effect.specs.Ready.{readyData}
 use Rattle.reader.specs.Item.{chunk}
-use Rattle.reader.specs.Step.{stepBy, stepOf}
+use Rattle.reader.specs.Step.{before, stepBy, stepOf}
 use Rattle.reader.specs.declared.Cursor.{Cursor}
-use Rattle.reader.proofs.Laws.{chunk-ends, chunk-size}
+use Rattle.reader.proofs.Laws.{chunk-ends}
+use Rattle.state.specs.State.{emptied}
 use Rattle.state.specs.declared.State.{State}
 use Rattle.samples.specs.Layout.{layout}
-use Rattle.samples.specs.Copy.{layoutIn, layoutBy, layoutAt}
-use Rattle.samples.specs.Inner.Plan.{laidSaid, plannedSaid, sizedBy, Sound}
-use Rattle.samples.specs.declared.Laid.{Laid}
-use Rattle.samples.specs.declared.Laid.the-variants as laid
+use Rattle.samples.specs.Copy.{layoutIn, layoutBy}
+use Rattle.samples.specs.Inner.Plan.{numberBytes, lies, part, Plans, Tells, Sound}
 use Rattle.samples.specs.declared.Layout.{Layout}
-use Rattle.samples.specs.declared.Planned.the-variants.{Go}
-use Rattle.samples.proofs.AtCursor.{stands}
+use Rattle.samples.specs.declared.Planned.{Planned}
+use Rattle.samples.specs.declared.Planned.the-variants.{Go, Refused}
+use Rattle.samples.proofs.Asked.{data-ready, given-lies, none-lies, searching}
+use Rattle.samples.proofs.AtCursor.{effectIn, stands}
 use Rattle.samples.proofs.Lies.{layout-lies}
 use Rattle.samples.proofs.Ready.{effect-ready}
 
 -- what is no chunk has no place for samples
 pub none-ahead : (float : Bool) (channel : ℕ) (o : Order) (l : List ℕ) (c : Cursor) (a : Ahead) → isChunk a ≡ false →
-    refuses 35 ≡ layoutBy float channel (stepBy o l c a .shown) (stepBy o l c a .item)
+    layoutBy float channel (stepBy o l c a .shown) (stepBy o l c a .item) ≡ refuses 35
 none-ahead float channel o l c End e = refl
 none-ahead float channel o l c Stretch e = refl
 none-ahead float channel o l c Cut e = refl
 none-ahead float channel o l c (Chunk code size) e = let z : _≡_ {A = ℕ} 0 1 = cc in absurd (omega arith)
+
+-- and a reader that is searching finds nothing ready
+pub none-searching : (float : Bool) (channel : ℕ) (o : Order) (l : List ℕ) (c : Cursor) (a : Ahead) → c .«in_step» ≡ false →
+    layoutBy float channel (stepBy o l c a .shown) (stepBy o l c a .item) ≡ refuses 35
+none-searching float channel o l c End e = refl
+none-searching float channel o l c Stretch e = refl
+none-searching float channel o l c Cut e = refl
+none-searching float channel o l c (Chunk code size) e =
+    let t = effectIn o l code size (emptied true) in
+    rw e (sym (none-lies float channel (t .shown) (t .says) code (searching o (take size (drop 12 l)) (kindOf code))))
 
 in-by : (float : Bool) (channel code : ℕ) (shown : State) (says : Says) (l : Layout) → layoutIn float channel shown says code ≡ gives l →
     (d : Data) × (says ≡ ready d) × (layout float (shaped (kindOf code)) channel shown d ≡ gives l)
@@ -46,27 +59,42 @@ in-by float channel code shown (bad n) l e = let z : _≡_ {A = ℕ} 0 1 = cc in
 in-by float channel code shown (waits n t) l e = let z : _≡_ {A = ℕ} 0 1 = cc in absurd (omega arith)
 in-by float channel code shown (ready d) l e = (d, refl, e)
 
-module _ (float : Bool) (o : Order) (s : List ℕ) (c : Cursor) (channel place code size : ℕ) (says : Says)
-    (e : stepOf o s c .item ≡ gives (chunk place code size says)) where
-  sound-by : (l : Layout) → layoutIn float channel (stepOf o s c .shown) says code ≡ gives l → Sound float o s c (Go l size)
-  sound-by l h =
-      let t = stands o c place code size says s e in
-      let i = in-by float channel code (stepOf o s c .shown) says l h in
-      let d = i .0 in
-      let body = take size (drop 12 (drop (c .place) s)) in
-      let r = rw (← ap (λ x. x .shown) (t .step)) at (effect-ready o body _ d (kindOf code) (t .said ∙ i .1)) in
-      let n : length body ≡ size = chunk-size o s (c .place) code size (t .here) in
-      let q = r .size in (
-        omega arith,
-        chunk-ends o s (c .place) code size (t .here),
-        rw e,
-        rw n at (layout-lies channel body (stepOf o s c .shown) d l float (shaped (kindOf code)) r (i .2)),
-      )
+module _ (o : Order) (s : List ℕ) (at code size : ℕ) (state : State) (fits : at + 12 + size ≤ length s) where
+  body-size : length (take size (drop 12 (drop at s))) ≡ size
+  body-size = length-take-le size (drop 12 (drop at s)) (simp length-drop (omega arith))
 
-  -- the layout is that of the rule, and what is known of it is so
-  pub plan-chunk : (k : Laid) → laidSaid k ≡ layoutIn float channel (stepOf o s c .shown) says code →
-      (plannedSaid (sizedBy k size) ≡ layoutAt float o s c channel) × Sound float o s c (sizedBy k size)
-  unfolding layoutAt
-  plan-chunk (laid.At l) h = (rw e h, sound-by l (sym h))
-  plan-chunk laid.NoChannel h = (rw e h, tt)
-  plan-chunk laid.NotReady h = (rw e h, tt)
+  -- the numbers of a channel lie inside the samples of their chunk
+  chunk-lies : (float : Bool) (channel : ℕ) (l : Layout) → let t = effectIn o (drop at s) code size state in
+      layoutIn float channel (t .shown) (t .says) code ≡ gives l → lies (numberBytes float) (size - 8) l ≡ true
+  chunk-lies float channel l e =
+      let t = effectIn o (drop at s) code size state in
+      let body = take size (drop 12 (drop at s)) in
+      let i = in-by float channel code (t .shown) (t .says) l e in
+      rw body-size at (layout-lies channel body (t .shown) (i .0) l float (shaped (kindOf code)) (effect-ready o body state (i .0) (kindOf code) (i .1)) (i .2))
+
+  module _ (d : Data) (r : gives d ≡ readyData (effectIn o (drop at s) code size state .says)) where
+    -- a ready chunk has a time
+    pub has-time : 8 ≤ size
+    has-time =
+        let body = take size (drop 12 (drop at s)) in
+        let q = effect-ready o body state d (kindOf code) (data-ready (effectIn o (drop at s) code size state .says) d r) .size in
+        omega (arith, body-size)
+
+    -- what is planned for it tells where its samples lie
+    pub plan-tells : (float : Bool) (channel : ℕ) (p : Planned) (a : Answer Layout) (samples : List ℕ) → Plans (layout float (shaped (kindOf code)) channel state d) at size p →
+        layout float (shaped (kindOf code)) channel state d ≡ a → samples ≡ take (size - 8) (drop 20 (drop at s)) →
+        Tells s a samples p × Sound (numberBytes float) s p
+    plan-tells float channel (Go l from to) a samples p e q =
+        let n : to - from ≡ size - 8 = omega (arith, p .1, p .2, has-time) in
+        let k = sym (given-lies o code (take size (drop 12 (drop at s))) state float channel d r) ∙ p .0 in (
+          (sym e ∙ p .0, q ∙ rw (n, p .1, drop-drop 20 at s)),
+          (omega (arith, p .1, p .2, has-time), omega (arith, p .2), rw n (chunk-lies float channel l k)),
+        )
+    plan-tells float channel (Refused why) a samples p e q = ((p .0, sym e ∙ p .1, p .2), tt)
+
+-- and those of the chunk that a step gives
+pub step-lies : (float : Bool) (o : Order) (s : List ℕ) (c : Cursor) (channel p code size : ℕ) (says : Says) → stepOf o s c .item ≡ gives (chunk p code size says) →
+    (l : Layout) → layoutIn float channel (stepOf o s c .shown) says code ≡ gives l → lies (numberBytes float) (size - 8) l ≡ true
+step-lies float o s c channel p code size says e l h =
+    let t = stands o c p code size says s e in
+    chunk-lies o s (c .place) code size (before (c .«in_step») (c .state)) (chunk-ends o s (c .place) code size (t .here)) float channel l (rw (← t .said, ap (λ x. x .shown) (t .step)) at h)

@@ -84,11 +84,11 @@ covering-by g (waits n t) d e = let z : _≡_ {A = ℕ} 0 1 = cc in absurd (omeg
 covering-by g (ready x) d e = cover-by g x d (groupCovers (x .samples) (g .n) (g .increment) (g .offsets)) refl e
 
 -- no other chunk is ready
-judged-by : {A : Type 0} (a : Answer A) (d : Data) → judged a ≡ ready d → ⊥
+pub judged-by : {A : Type 0} (a : Answer A) (d : Data) → judged a ≡ ready d → ⊥
 judged-by (gives a) d e = let z : _≡_ {A = ℕ} 0 1 = cc in omega arith
 judged-by (refuses n) d e = let z : _≡_ {A = ℕ} 0 1 = cc in omega arith
 
-shown-by : (s : Says) (d : Data) (x : State) → s ≡ ready d → pick (isReady s) x noState ≡ x
+pub shown-by : (s : Says) (d : Data) (x : State) → s ≡ ready d → pick (isReady s) x noState ≡ x
 shown-by s d x e = rw e
 
 module _ (o : Order) (body : List ℕ) (s : State) (d : Data) where

@@ -48,11 +48,11 @@ layoutAt float o s c channel =
     layoutBy float channel (t .shown) (t .item)
 
 -- then 33 where the slice has no room for the numbers, and else their count
-abbrev pub counted : ℕ → Layout → Answer ℕ
-counted room l = pick (leb (numbers l) room) (gives (numbers l)) (refuses 33)
+abbrev pub countWithin : ℕ → Layout → Answer ℕ
+countWithin room l = pick (leb (numbers l) room) (gives (numbers l)) (refuses 33)
 
 unfoldable pub countOf : Bool → Order → List ℕ → Cursor → ℕ → ℕ → Answer ℕ
-countOf float o s c channel room = then (layoutAt float o s c channel) (counted room)
+countOf float o s c channel room = then (layoutAt float o s c channel) (countWithin room)
 
 -- the sample bytes of the chunk that a step would give: after its header and its time, up to its end
 abbrev pub samplesBy : Answer Item → List ℕ → List ℕ

@@ -1,3 +1,4 @@
 pub mod Layout
 pub mod Copy
+pub mod Given
 pub mod Inner

@@ -1,16 +1,24 @@
-// Samples: the numbers of one channel, copied out of the ready data chunk at a cursor. Here stands where they lie.
+// Samples: the numbers of one channel, copied out of a ready data chunk: the one at a cursor, or the one that a step gave. Here
+// stands where they lie.
+mod given;
 pub mod patterns;
 pub mod shorts;
 
+pub use patterns::patterns_at;
+pub use patterns::patterns_of;
+pub use shorts::shorts_at;
+pub use shorts::shorts_of;
 ghost use mathlib.Core.Path.{_≡_};
-ghost use lib.ListN.{getD};
+ghost use Prim.Native.Nat.{_+_, _^_, _≤_, _<_};
+ghost use lib.ListN.{length, take, drop, getD};
 ghost use Rattle.samples.specs.Layout.{hasWidth, alone, paired, real, oneOf, arranged, layout};
-ghost use Rattle.body.specs.Kind.{kindOf};
+ghost use Rattle.body.specs.Table.{shaped};
 ghost use Rattle.effect.specs.Effect.{effect};
-ghost use Rattle.reader.specs.Step.{before};
-ghost use Rattle.samples.specs.Inner.Plan.{laidSaid, plannedSaid, sizedBy, layoutOf, Sound};
-ghost use Rattle.samples.specs.Copy.{layoutAt};
+ghost use Rattle.effect.specs.Ready.{readyData, askedSaid};
+ghost use Rattle.samples.specs.Inner.Plan.{layoutSaid, numberBytes, Plans, Tells, Sound};
+ghost use Rattle.samples.specs.Copy.{layoutAt, samplesAt};
 use body::Data;
+use body::Kind;
 use body::Shape;
 use body::Shaped;
 use effect::Asked;
@@ -29,33 +37,31 @@ pub struct Layout {
     pub count: usize,
 }
 
-pub enum Laid {
+pub enum LayoutFound {
     At(Layout),
     NoChannel,
     NotReady,
 }
 
-// Where the channel lies in the chunk at a cursor, with the chunk's size; or a refusal.
+// What is to be copied: where the channel's numbers lie in a part of the stream, and the places between which that part lies;
+// or why nothing is.
 pub enum Planned {
-    Go(Layout, usize),
-    PastEnd,
-    BadState,
-    NotReady,
-    NoChannel,
+    Go(Layout, usize, usize),
+    Refused(Copied),
 }
 
 // The count of numbers written, or why there are none.
 pub enum Copied {
     Count(usize),
-    // Number 2.
+    // The cursor's place is past the end: number 2.
     PastEnd,
-    // Number 3.
+    // The cursor is in step with a state that is not good: number 3.
     BadState,
-    // No ready data chunk of the call's width stands at the cursor: number 35.
+    // No ready data chunk of the call's width stands at the cursor, or what a step gave is none: number 35.
     NotReady,
-    // Number 34.
+    // The chunk has no such channel: number 34.
     NoChannel,
-    // Number 33.
+    // The slice has no room for the channel's numbers: number 33.
     TooShort,
 }
 
@@ -72,13 +78,13 @@ fn has_width(float: bool, shape: Shape) -> bool
     }
 }
 
-fn alone(channel: usize, layout: Layout) -> Laid
-    ensures { λ r. ⌜ laidSaid r ≡ alone channel layout ⌝ }
+fn alone(channel: usize, layout: Layout) -> LayoutFound
+    ensures { λ r. ⌜ layoutSaid r ≡ alone channel layout ⌝ }
 {
     if channel == 0 {
-        Laid::At(layout)
+        LayoutFound::At(layout)
     } else {
-        Laid::NoChannel
+        LayoutFound::NoChannel
     }
 }
 
@@ -118,16 +124,16 @@ fn offset_at(offsets: [u32; 16], channel: usize) -> usize
     }
 }
 
-fn one_of(channel: usize, shown: State, d: Data) -> Laid
-    ensures { λ r. ⌜ laidSaid r ≡ oneOf channel shown d ⌝ }
+fn one_of(channel: usize, shown: State, d: Data) -> LayoutFound
+    ensures { λ r. ⌜ layoutSaid r ≡ oneOf channel shown d ⌝ }
 {
     let group = shown.values.group;
     let n = group.n;
     if channel >= n {
-        return Laid::NoChannel;
+        return LayoutFound::NoChannel;
     }
     let offsets = group.offsets;
-    Laid::At(Layout {
+    LayoutFound::At(Layout {
         pairs: true,
         iq: group.iq,
         first: offset_at(offsets, channel),
@@ -136,8 +142,8 @@ fn one_of(channel: usize, shown: State, d: Data) -> Laid
     })
 }
 
-fn arranged(shape: Shape, channel: usize, shown: State, d: Data) -> Laid
-    ensures { λ r. ⌜ laidSaid r ≡ arranged shape channel shown d ⌝ }
+fn arranged(shape: Shape, channel: usize, shown: State, d: Data) -> LayoutFound
+    ensures { λ r. ⌜ layoutSaid r ≡ arranged shape channel shown d ⌝ }
 {
     match shape {
         Shape::ShortPairs => alone(channel, paired(shown, d)),
@@ -150,73 +156,75 @@ fn arranged(shape: Shape, channel: usize, shown: State, d: Data) -> Laid
 }
 
 // Where a channel of a ready chunk lies, if the chunk is of the width.
-fn laid_out(float: bool, shaped: Shaped, channel: usize, shown: State, d: Data) -> Laid
-    ensures { λ r. ⌜ laidSaid r ≡ layout float shaped channel shown d ⌝ }
+fn layout_in(float: bool, shaped: Shaped, channel: usize, shown: State, d: Data) -> LayoutFound
+    ensures { λ r. ⌜ layoutSaid r ≡ layout float shaped channel shown d ⌝ }
 {
     match shaped {
         Shaped::Samples(shape) => {
             if has_width(float, shape) {
                 arranged(shape, channel, shown, d)
             } else {
-                Laid::NotReady
+                LayoutFound::NotReady
             }
         }
-        Shaped::NoSamples => Laid::NotReady,
+        Shaped::NoSamples => LayoutFound::NotReady,
     }
 }
 
-// The same of a chunk at a cursor. Nothing is ready for a reader that is searching: it has no sample rate.
-fn in_chunk(
-    order: Order,
-    code: u32,
-    body: &[u8],
-    cursor: Cursor,
-    channel: usize,
-    float: bool,
-) -> Laid
-    ensures { λ r. ⌜ laidSaid r ≡ layoutOf float channel code (effect order (kindOf code) (now (body .entry)) (before (cursor .«in_step») (cursor .state))) ⌝ }
+// The data of the complete chunk of a kind and a size at a place, where it is ready with this state.
+fn data_at(order: Order, s: &[u8], at: usize, kind: Kind, size: usize, state: State) -> Asked
+    requires { ⌜ at + 12 + size ≤ length (now s) ⌝ }
+    ensures { λ r. ⌜ askedSaid r ≡ readyData (effect order kind (take size (drop 12 (drop at (now (s .entry))))) state .says) ⌝ }
 {
-    if !cursor.in_step {
-        return Laid::NotReady;
-    }
-    let state = cursor.state;
-    let kind = body::kind_of(code);
-    match effect::ready_data(order, kind, body, state) {
-        Asked::Ready(d) => laid_out(float, body::shape_of(kind), channel, state, d),
-        Asked::NotReady => Laid::NotReady,
+    let from = at + 12;
+    let to = from + size;
+    effect::ready_data(order, kind, &s[from..to], state)
+}
+
+// The plan for that chunk, with the data that it has.
+fn plan_in(
+    float: bool,
+    kind: Kind,
+    channel: usize,
+    state: State,
+    d: Data,
+    at: usize,
+    size: usize,
+) -> Planned
+    requires { ⌜ (8 ≤ size) × (at + 12 + size < 2 ^ 64) ⌝ }
+    ensures { λ r. ⌜ Plans (layout float (shaped kind) channel state d) at size r ⌝ }
+{
+    match layout_in(float, body::shape_of(kind), channel, state, d) {
+        LayoutFound::At(layout) => Planned::Go(layout, at + 20, at + 12 + size),
+        LayoutFound::NoChannel => Planned::Refused(Copied::NoChannel),
+        LayoutFound::NotReady => Planned::Refused(Copied::NotReady),
     }
 }
 
-// Where the channel lies in the chunk at the cursor. No step is made: it would move a state that nobody asks for.
-fn plan(order: Order, s: &[u8], cursor: Cursor, channel: usize, float: bool) -> Planned
-    ensures { λ r. ⌜ (plannedSaid r ≡ layoutAt float order (now (s .entry)) cursor channel) × Sound float order (now (s .entry)) cursor r ⌝ }
+// The plan for the chunk at a cursor. No step is made: it would move a state that nobody asks for.
+fn plan_at(order: Order, s: &[u8], cursor: Cursor, channel: usize, float: bool) -> Planned
+    ensures { λ r. ⌜ Tells (now (s .entry)) (layoutAt float order (now (s .entry)) cursor channel) (samplesAt order (now (s .entry)) cursor) r × Sound (numberBytes float) (now (s .entry)) r ⌝ }
 {
     let at = cursor.place;
     if s.len() < at {
-        return Planned::PastEnd;
+        return Planned::Refused(Copied::PastEnd);
     }
     let values = cursor.state.values;
     // The two halves of the test are short enough to be inlined one by one.
     if cursor.in_step & !(values.good_values() & values.good_lists()) {
-        return Planned::BadState;
+        return Planned::Refused(Copied::BadState);
+    }
+    // Nothing is ready for a reader that is searching: it has no sample rate.
+    if !cursor.in_step {
+        return Planned::Refused(Copied::NotReady);
     }
     let Ahead::Chunk { code, size } = frame::ahead_of(order, s, at) else {
-        return Planned::NotReady;
+        return Planned::Refused(Copied::NotReady);
     };
-    let from = at + 12;
-    let to = from + size;
-    sized(
-        in_chunk(order, code, &s[from..to], cursor, channel, float),
-        size,
-    )
-}
-
-fn sized(laid: Laid, size: usize) -> Planned
-    ensures { λ r. ⌜ r ≡ sizedBy laid size ⌝ }
-{
-    match laid {
-        Laid::At(layout) => Planned::Go(layout, size),
-        Laid::NoChannel => Planned::NoChannel,
-        Laid::NotReady => Planned::NotReady,
+    let state = cursor.state;
+    let kind = body::kind_of(code);
+    match data_at(order, s, at, kind, size, state) {
+        Asked::Ready(d) => plan_in(float, kind, channel, state, d, at, size),
+        Asked::NotReady => Planned::Refused(Copied::NotReady),
     }
 }

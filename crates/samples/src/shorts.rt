@@ -4,19 +4,22 @@ ghost use mathlib.Core.Bool.{true, false};
 ghost use lib.ListN.{length};
 ghost use Rattle.num.specs.Answer.{gives};
 ghost use Rattle.copy.specs.Samples.{shortAt};
-ghost use Rattle.samples.specs.Inner.Plan.{lies};
-ghost use Rattle.samples.specs.Copy.{copiedSaid, layoutAt, counted, countOf, samplesAt, filled};
+ghost use Rattle.samples.specs.Inner.Plan.{lies, Sound, plannedCount, plannedLeft};
+ghost use Rattle.samples.specs.Copy.{copiedSaid, layoutAt, countWithin, countOf, samplesAt, filled};
+ghost use Rattle.samples.specs.Given.{layoutGiven, countGiven, samplesGiven};
 use crate::Copied;
 use crate::Layout;
 use crate::Planned;
+use crate::given;
 use num::Order;
 use reader::Cursor;
+use reader::Stepped;
 
 // The layout lies inside src, which stands at a place of the stream.
-fn put(order: Order, at: usize, src: &[u8], l: Layout, out: &mut [i16]) -> Copied
+fn fill_from(order: Order, at: usize, src: &[u8], l: Layout, out: &mut [i16]) -> Copied
     requires { ⌜ lies 2 (length (now src)) l ≡ true ⌝ }
-    ensures { λ r. ⌜ copiedSaid r ≡ counted (length (now (out .entry))) l ⌝ }
-    ensures { λ r. ⌜ now (out .exit) ≡ filled (counted (length (now (out .entry))) l) (gives l) (shortAt order (now (src .entry))) (now (out .entry)) ⌝ }
+    ensures { λ r. ⌜ copiedSaid r ≡ countWithin (length (now (out .entry))) l ⌝ }
+    ensures { λ r. ⌜ now (out .exit) ≡ filled (countWithin (length (now (out .entry))) l) (gives l) (shortAt order (now (src .entry))) (now (out .entry)) ⌝ }
 {
     let count = l.count;
     if l.pairs {
@@ -33,21 +36,51 @@ fn put(order: Order, at: usize, src: &[u8], l: Layout, out: &mut [i16]) -> Copie
     Copied::TooShort
 }
 
-// The 16-bit numbers of a channel of the chunk at the cursor, I before Q.
-pub fn copy(order: Order, s: &[u8], cursor: Cursor, channel: usize, out: &mut [i16]) -> Copied
+// What a plan comes to: the numbers copied, or its refusal.
+fn fill(order: Order, s: &[u8], planned: Planned, out: &mut [i16]) -> Copied
+    requires { ⌜ Sound 2 (now s) planned ⌝ }
+    ensures { λ r. ⌜ copiedSaid r ≡ plannedCount (length (now (out .entry))) planned ⌝ }
+    ensures { λ r. ⌜ now (out .exit) ≡ plannedLeft (shortAt order) (now (s .entry)) planned (now (out .entry)) ⌝ }
+{
+    match planned {
+        Planned::Go(layout, from, to) => fill_from(order, from, &s[from..to], layout, out),
+        Planned::Refused(why) => why,
+    }
+}
+
+// Copies the 16-bit numbers of one channel out of the ready data chunk at the cursor, I before Q, to the front of the slice, and
+// answers how many they are. Refused, in this order, with 2, 3, 35, 34 and 33 (see `Copied`); then nothing is written. What
+// lies behind the numbers stays as it was.
+pub fn shorts_at(order: Order, s: &[u8], cursor: Cursor, channel: usize, out: &mut [i16]) -> Copied
     ensures { λ r. ⌜ copiedSaid r ≡ countOf false order (now (s .entry)) cursor channel (length (now (out .entry))) ⌝ }
     ensures { λ r. ⌜ now (out .exit) ≡ filled (countOf false order (now (s .entry)) cursor channel (length (now (out .entry)))) (layoutAt false order (now (s .entry)) cursor channel) (shortAt order (samplesAt order (now (s .entry)) cursor)) (now (out .entry)) ⌝ }
 {
-    let place = cursor.place;
-    match crate::plan(order, s, cursor, channel, false) {
-        Planned::Go(layout, size) => {
-            let from = place + 20;
-            let to = place + 12 + size;
-            put(order, from, &s[from..to], layout, out)
-        }
-        Planned::PastEnd => Copied::PastEnd,
-        Planned::BadState => Copied::BadState,
-        Planned::NotReady => Copied::NotReady,
-        Planned::NoChannel => Copied::NoChannel,
-    }
+    fill(
+        order,
+        s,
+        crate::plan_at(order, s, cursor, channel, false),
+        out,
+    )
+}
+
+// The same out of the chunk that a step gave; the cursor that the step left has no say. Refused with 35 where that is no chunk
+// said to be ready, where the stream has no complete chunk of its type and size at its place, where that chunk and the state
+// shown do not make it ready with the same time and count of samples, or where it is not of this width; then with 34 and 33.
+// It is never refused with 2 or 3.
+pub fn shorts_of(
+    order: Order,
+    s: &[u8],
+    stepped: Stepped,
+    channel: usize,
+    out: &mut [i16],
+) -> Copied
+    ensures { λ r. ⌜ copiedSaid r ≡ countGiven false order (now (s .entry)) stepped channel (length (now (out .entry))) ⌝ }
+    ensures { λ r. ⌜ now (out .exit) ≡ filled (countGiven false order (now (s .entry)) stepped channel (length (now (out .entry)))) (layoutGiven false order (now (s .entry)) stepped channel) (shortAt order (samplesGiven (now (s .entry)) stepped)) (now (out .entry)) ⌝ }
+{
+    fill(
+        order,
+        s,
+        given::plan_of(order, s, stepped, channel, false),
+        out,
+    )
 }

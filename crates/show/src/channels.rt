@@ -46,7 +46,7 @@ fn start(channel: usize, count: usize) {
 // 16-bit numbers, in decimal. A chunk of floats has none.
 fn shorts(order: Order, s: &[u8], cursor: Cursor, channel: usize) {
     let mut out = short_room();
-    if let Copied::Count(n) = samples::shorts::copy(order, s, cursor, channel, &mut out) {
+    if let Copied::Count(n) = samples::shorts_at(order, s, cursor, channel, &mut out) {
         start(channel, n);
         for i in 0..n {
             if i < 32768 {
@@ -60,7 +60,7 @@ fn shorts(order: Order, s: &[u8], cursor: Cursor, channel: usize) {
 // 32-bit patterns of floats. A chunk of 16-bit numbers has none.
 fn patterns(order: Order, s: &[u8], cursor: Cursor, channel: usize) {
     let mut out = pattern_room();
-    if let Copied::Count(n) = samples::patterns::copy(order, s, cursor, channel, &mut out) {
+    if let Copied::Count(n) = samples::patterns_at(order, s, cursor, channel, &mut out) {
         start(channel, n);
         for i in 0..n {
             if i < 16384 {

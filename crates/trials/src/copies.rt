@@ -80,7 +80,7 @@ fn into_shorts(
         return digest;
     }
     told(
-        samples::shorts::copy(order, s, cursor, channel, &mut out[0..room]),
+        samples::shorts_at(order, s, cursor, channel, &mut out[0..room]),
         digest,
     )
 }
@@ -122,7 +122,7 @@ fn into_patterns(
         return digest;
     }
     told(
-        samples::patterns::copy(order, s, cursor, channel, &mut out[0..room]),
+        samples::patterns_at(order, s, cursor, channel, &mut out[0..room]),
         digest,
     )
 }

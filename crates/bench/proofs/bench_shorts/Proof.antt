@@ -11,8 +11,8 @@ order-by-requires c κs = search needs
 walk-requires : tie.Need-walk-requires
 walk-requires c κs = search needs
 
-copy-requires : tie.Need-copy-requires
-copy-requires c κs = search needs
+shorts-at-requires : tie.Need-shorts-at-requires
+shorts-at-requires c κs = search needs
 
 count-of-requires : tie.Need-count-of-requires
 count-of-requires c κs = search needs
@@ -23,7 +23,7 @@ same-length c = search needs
 returns : tie.Need-returns
 returns c =
     let k = c .before .before in
-    let e = k .copy .ensures in
+    let e = k .shorts-at .ensures in
     rw (← k .before .before .before .order-by .ensures, ← k .before .before .walk .ensures .0) (c .count-of .ensures ∙ ap orZero (e .0), e .1)
 
 pub bench-shorts-spec : {M : Type 1} → statement M
@@ -32,7 +32,7 @@ bench-shorts-spec =
     (tie.spec
     order-by-requires
     walk-requires
-    copy-requires
+    shorts-at-requires
     count-of-requires
     same-length
     returns)

@@ -13,11 +13,11 @@ abbrev μ-loop : tie.MeasureT-loop
 pattern-room-requires : tie.Need-pattern-room-requires Inv-loop μ-loop
 pattern-room-requires c κs = search needs
 
-slice-aggregate-copy : tie.Need-slice-aggregate-copy Inv-loop μ-loop
-slice-aggregate-copy c = search needs
+slice-aggregate-patterns-at : tie.Need-slice-aggregate-patterns-at Inv-loop μ-loop
+slice-aggregate-patterns-at c = search needs
 
-copy-requires : tie.Need-copy-requires Inv-loop μ-loop
-copy-requires c κs = search needs
+patterns-at-requires : tie.Need-patterns-at-requires Inv-loop μ-loop
+patterns-at-requires c κs = search needs
 
 enum-known-n : tie.Need-enum-known-n Inv-loop μ-loop
 enum-known-n c = search needs
@@ -68,8 +68,8 @@ patterns-spec =
     Inv-loop
     μ-loop
     pattern-room-requires
-    slice-aggregate-copy
-    copy-requires
+    slice-aggregate-patterns-at
+    patterns-at-requires
     enum-known-n
     start-requires
     loop-holds

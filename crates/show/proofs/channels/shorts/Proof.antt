@@ -13,11 +13,11 @@ abbrev μ-loop : tie.MeasureT-loop
 short-room-requires : tie.Need-short-room-requires Inv-loop μ-loop
 short-room-requires c κs = search needs
 
-slice-aggregate-copy : tie.Need-slice-aggregate-copy Inv-loop μ-loop
-slice-aggregate-copy c = search needs
+slice-aggregate-shorts-at : tie.Need-slice-aggregate-shorts-at Inv-loop μ-loop
+slice-aggregate-shorts-at c = search needs
 
-copy-requires : tie.Need-copy-requires Inv-loop μ-loop
-copy-requires c κs = search needs
+shorts-at-requires : tie.Need-shorts-at-requires Inv-loop μ-loop
+shorts-at-requires c κs = search needs
 
 enum-known-n : tie.Need-enum-known-n Inv-loop μ-loop
 enum-known-n c = search needs
@@ -71,8 +71,8 @@ shorts-spec =
     Inv-loop
     μ-loop
     short-room-requires
-    slice-aggregate-copy
-    copy-requires
+    slice-aggregate-shorts-at
+    shorts-at-requires
     enum-known-n
     start-requires
     loop-holds

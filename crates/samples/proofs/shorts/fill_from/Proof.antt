@@ -3,10 +3,10 @@ use mathlib.Core.Path.{sym, _∙_}
 use native.Mathlib.Omega.{arith}
 use lib.ListN.{length}
 use Rattle.copy.specs.Samples.{shortAt}
-use Rattle.samples.proofs.Puts.{pairs-fits, pairs-done, pairs-short, reals-done, reals-short}
+use Rattle.samples.proofs.Fills.{pairs-fits, pairs-done, pairs-short, reals-done, reals-short}
 use borrow.Author.Needs.{needs}
-use Rattle.samples.proofs.shorts.put.Statement.{statement}
-use Rattle.samples.proofs.shorts.put.Tie as tie
+use Rattle.samples.proofs.shorts.fill_from.Statement.{statement}
+use Rattle.samples.proofs.shorts.fill_from.Tie as tie
 
 short-pairs-requires : tie.Need-short-pairs-requires
 short-pairs-requires c κs = search needs
@@ -60,8 +60,8 @@ returns-4 c =
     let h = reals-short (shortAt (a .order) (a .src .now)) 2 (length (a .src .now)) (length (a .out .now)) (a .l) (a .out .now) (c .before .before .before .before .before .before .pre) (c .before .before .before .before .if1 .left) (sym (e .0) ∙ c .if3 .left) in
     (h .0, (rw (c .if3 .left) at (e .1)) ∙ h .1)
 
-pub put-spec : {M : Type 1} → statement M
-put-spec =
+pub fill-from-spec : {M : Type 1} → statement M
+fill-from-spec =
     tie.close
     (tie.spec
     short-pairs-requires

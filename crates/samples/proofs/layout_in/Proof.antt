@@ -1,7 +1,7 @@
 -- The width comes before the channel.
 use borrow.Author.Needs.{needs}
-use Rattle.samples.proofs.laid_out.Statement.{statement}
-use Rattle.samples.proofs.laid_out.Tie as tie
+use Rattle.samples.proofs.layout_in.Statement.{statement}
+use Rattle.samples.proofs.layout_in.Tie as tie
 
 enum-known-shaped : tie.Need-enum-known-shaped
 enum-known-shaped c = search needs
@@ -26,8 +26,8 @@ returns-2 c = rw (c .before .before .before .shaped .given .1, ← c .before .ha
 returns-3 : tie.Need-returns-3
 returns-3 c = rw (c .enum-told .given .1)
 
-pub laid-out-spec : {M : Type 1} → statement M
-laid-out-spec =
+pub layout-in-spec : {M : Type 1} → statement M
+layout-in-spec =
     tie.close
     (tie.spec
     enum-known-shaped

@@ -8,7 +8,7 @@ use borrow.Author.Tests.{leb-true}
 use Rattle.num.specs.Choice.{each}
 use Rattle.num.specs.Answer.{gives, refuses}
 use Rattle.copy.specs.Samples.{inside, placeOf, pairsOf, realsOf, frontFilled, pairsFit, realsFit}
-use Rattle.samples.specs.Copy.{counted, filled}
+use Rattle.samples.specs.Copy.{countWithin, filled}
 use Rattle.samples.specs.Inner.Plan.{lies}
 use Rattle.samples.specs.declared.Layout.{Layout}
 
@@ -20,20 +20,20 @@ module _ {A : Type 0} (value : ℕ → A) (w size room : ℕ) (l : Layout) (out 
   pairs-fits p f = leb-true (2 * l .count) room (sym (pairs-room p) ∙ f)
 
   pub pairs-done : l .pairs ≡ true → pairsFit w size (l .first) (l .step) (l .count) room ≡ true →
-      (gives (2 * l .count) ≡ counted room l) × (frontFilled (pairsOf value (l .iq) (l .first) (l .step) (l .count)) out ≡ filled (counted room l) (gives l) value out)
+      (gives (2 * l .count) ≡ countWithin room l) × (frontFilled (pairsOf value (l .iq) (l .first) (l .step) (l .count)) out ≡ filled (countWithin room l) (gives l) value out)
   pairs-done p f = let q = sym (pairs-room p) ∙ f in (rw (p, q), rw (p, q))
 
   pub pairs-short : l .pairs ≡ true → pairsFit w size (l .first) (l .step) (l .count) room ≡ false →
-      (refuses 33 ≡ counted room l) × (out ≡ filled (counted room l) (gives l) value out)
+      (refuses 33 ≡ countWithin room l) × (out ≡ filled (countWithin room l) (gives l) value out)
   pairs-short p f = let q = sym (pairs-room p) ∙ f in (rw (p, q), rw (p, q))
 
   reals-room : l .pairs ≡ false → realsFit w size (l .count) room ≡ leb (l .count) room
   reals-room p = let q : leb (l .count * w) size ≡ true = rw p at k in rw q
 
   pub reals-done : l .pairs ≡ false → realsFit w size (l .count) room ≡ true →
-      (gives (l .count) ≡ counted room l) × (frontFilled (realsOf value (l .count)) out ≡ filled (counted room l) (gives l) value out)
+      (gives (l .count) ≡ countWithin room l) × (frontFilled (realsOf value (l .count)) out ≡ filled (countWithin room l) (gives l) value out)
   reals-done p f = let q = sym (reals-room p) ∙ f in (rw (p, q), rw (p, q))
 
   pub reals-short : l .pairs ≡ false → realsFit w size (l .count) room ≡ false →
-      (refuses 33 ≡ counted room l) × (out ≡ filled (counted room l) (gives l) value out)
+      (refuses 33 ≡ countWithin room l) × (out ≡ filled (countWithin room l) (gives l) value out)
   reals-short p f = let q = sym (reals-room p) ∙ f in (rw (p, q), rw (p, q))
