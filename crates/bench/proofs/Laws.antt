@@ -26,7 +26,8 @@ use Rattle.reader.specs.Item.{Item, itemSaid}
 use Rattle.reader.specs.IsStep.{IsStep}
 use Rattle.reader.specs.declared.Stepped.{Stepped}
 use Rattle.reader.proofs.Theorems.{Fit, step-keeps-fit, told, ahead, one, goes}
-use Rattle.bench.specs.Plain.{sound, soundIn, soundCount}
+use Rattle.bench.specs.Plain.{sound, soundCount}
+use Rattle.bench.specs.Inner.Sound.{soundIn}
 
 -- a chunk is sound or not
 says-most : (says : Says) → sound says ≤ 1

@@ -43,11 +43,6 @@ sound (ready d) = 1
 abbrev pub soundItem : Item → ℕ
 soundItem i = ofChunk 0 (λ place code size says. sound says) i
 
--- and of what a step answers
-abbrev pub soundIn : Answer Item → ℕ
-soundIn (gives i) = soundItem i
-soundIn (refuses k) = 0
-
 -- how many items of a list are sound
 unfoldable pub soundCount : List Given → ℕ
 soundCount [] = 0

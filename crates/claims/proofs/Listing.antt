@@ -1,11 +1,13 @@
--- Each text is the one that a definition gives.
+-- Each text, and each piece of one, is the one that a definition gives.
 use mathlib.Core.Path.{sym, _∙_}
 use Rattle.claims.proofs.Promise.{OneAnswer}
-use Rattle.listing.proofs.lines.first_line.Reads as first_line
-use Rattle.listing.proofs.lines.item_line.Reads as item_line
-use Rattle.listing.proofs.lines.last_line.Reads as last_line
-use Rattle.listing.proofs.lines.long_line.Reads as long_line
-use Rattle.listing.proofs.lines.none_line.Reads as none_line
+use Rattle.listing.proofs.first_line.Reads as first_line
+use Rattle.listing.proofs.item_line.Reads as item_line
+use Rattle.listing.proofs.last_line.Reads as last_line
+use Rattle.listing.proofs.long_line.Reads as long_line
+use Rattle.listing.proofs.none_line.Reads as none_line
+use Rattle.listing.proofs.piece_at.Reads as piece_at
+use Rattle.listing.proofs.word.Reads as word
 use Rattle.listing.proofs.words.decimal.Reads as decimal
 use Rattle.listing.proofs.words.hex_word.Reads as hex_word
 use Rattle.listing.proofs.words.label.Reads as label
@@ -26,6 +28,12 @@ long-line-one-answer κs a r r′ s s′ p q = p ∙ sym q
 
 pub none-line-one-answer : OneAnswer none_line.Post
 none-line-one-answer κs a r r′ s s′ p q = p ∙ sym q
+
+pub piece-at-one-answer : OneAnswer piece_at.Post
+piece-at-one-answer κs a r r′ s s′ p q = p ∙ sym q
+
+pub word-one-answer : OneAnswer word.Post
+word-one-answer κs a r r′ s s′ p q = p ∙ sym q
 
 pub newline-one-answer : OneAnswer newline.Post
 newline-one-answer κs a r r′ s s′ p q = p ∙ sym q

@@ -3,3 +3,4 @@ pub mod Numbers
 pub mod Told
 pub mod Theorems
 pub mod Shown
+pub mod Pieces

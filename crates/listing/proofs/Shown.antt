@@ -29,7 +29,7 @@ use Rattle.listing.specs.Text.{textOf, shown}
 use Rattle.listing.specs.Words.{numberWord, integerWord, hexWord, headOf}
 use Rattle.listing.specs.Lines.{isKnown, verdictWord, countLine, firstLine, stretchLine, chunkLine, answerLine, lastLine}
 use Rattle.listing.specs.declared.Label.{Label}
-use Rattle.listing.specs.declared.Label.the-variants.{Time, Mark, Packing, Rate, Bandwidth, GroupBandwidth, Frequency, FullScale, TotalGain, FloatScale, GroupPacking, GroupFrequencies, GroupGains, Samples}
+use Rattle.listing.specs.declared.Label.the-variants.{Time, Mark, Packing, Rate, Bandwidth, GroupBandwidth, Frequency, FullScale, TotalGain, FloatScale, GroupPacking, GroupFrequencies, GroupGains, Samples, Text, Value}
 use Rattle.listing.proofs.Numbers.{decimal-one, decimal-more, tenth-less}
 use Rattle.listing.proofs.Texts.{shown-text}
 
@@ -154,6 +154,8 @@ head-length GroupPacking = omega arith
 head-length GroupFrequencies = omega arith
 head-length GroupGains = omega arith
 head-length Samples = omega arith
+head-length Text = omega arith
+head-length Value = omega arith
 
 pub head-shown : (which : Label) → shown (textOf (headOf which)) ≡ headOf which
 head-shown which = shows-all _ (omega (arith, head-length which))

@@ -8,8 +8,9 @@ use lib.Dec.{ltb}
 use lib.ListN.{length, take, set, length-append}
 use lib.Seq.{take-all, length-take-le, take-append-le, take-take}
 use borrow.Author.Tests.{lt-ltb, le-ltb, ltb-true, ltb-false}
-use Rattle.listing.specs.Text.{padded, textOf, shown, push, joins}
-use Rattle.listing.specs.declared.text.Text.{Text}
+use Rattle.listing.specs.Text.{padded, textOf, shown}
+use Rattle.listing.specs.Inner.Text.{push, joins}
+use Rattle.listing.specs.declared.string.Text.{Text}
 
 -- the first place that is not used is set
 padded-set : (k : ℕ) (l : List ℕ) (b : ℕ) → length l < k → set (padded k l) (length l) b ≡ padded k (l ++ (b ∷ []))

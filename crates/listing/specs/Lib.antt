@@ -2,3 +2,5 @@ pub mod Digits
 pub mod Text
 pub mod Words
 pub mod Lines
+pub mod Characters
+pub mod Inner

@@ -1,10 +1,8 @@
--- Texts of at most 96 bytes: which bytes a text shows, and a text that grows at its end.
-use Prim.Native.Nat.{ℕ, zero, suc, _+_}
+-- Texts of at most 96 bytes, and which bytes a text shows.
+use Prim.Native.Nat.{ℕ, zero, suc}
 use mathlib.Core.List.{List, [], _∷_}
-use lib.Dec.{ltb}
-use lib.ListN.{length, take, set}
-use Rattle.num.specs.Choice.{pick}
-use Rattle.listing.specs.declared.text.Text.{Text}
+use lib.ListN.{length, take}
+use Rattle.listing.specs.declared.string.Text.{Text}
 
 -- k places: the bytes of l, as many as fit, and 0 at the others
 unfoldable pub padded : ℕ → List ℕ → List ℕ
@@ -19,12 +17,3 @@ textOf l = record { bytes = padded 96 l; len = length (take 96 l) }
 -- the bytes that a text shows
 abbrev pub shown : Text → List ℕ
 shown t = take (t .len) (t .bytes)
-
--- one byte more, where there is room
-abbrev pub push : Text → ℕ → Text
-push t b = pick (ltb (t .len) 96) (record { bytes = set (t .bytes) (t .len) b; len = t .len + 1 }) t
-
--- these bytes more, one by one
-unfoldable pub joins : Text → List ℕ → Text
-joins t [] = t
-joins t (b ∷ l) = joins (push t b) l

@@ -4,7 +4,7 @@ use lib.IntN.{ℤ}
 use mathlib.Core.List.{List, [], _∷_, _++_}
 use Rattle.listing.specs.Digits.{decimal, integer, hex}
 use Rattle.listing.specs.declared.Label.{Label}
-use Rattle.listing.specs.declared.Label.the-variants.{Time, Mark, Packing, Rate, Bandwidth, GroupBandwidth, Frequency, FullScale, TotalGain, FloatScale, GroupPacking, GroupFrequencies, GroupGains, Samples}
+use Rattle.listing.specs.declared.Label.the-variants.{Time, Mark, Packing, Rate, Bandwidth, GroupBandwidth, Frequency, FullScale, TotalGain, FloatScale, GroupPacking, GroupFrequencies, GroupGains, Samples, Text, Value}
 
 -- the end of a line
 abbrev pub newline : List ℕ
@@ -54,6 +54,10 @@ headOf GroupFrequencies = 0x20 ∷ 0x20 ∷ 0x47 ∷ 0x43 ∷ 0x46 ∷ 0x5F ∷ 
 headOf GroupGains = 0x20 ∷ 0x20 ∷ 0x47 ∷ 0x52 ∷ 0x47 ∷ 0x5F ∷ []
 -- samples
 headOf Samples = 0x20 ∷ 0x20 ∷ 0x73 ∷ 0x61 ∷ 0x6D ∷ 0x70 ∷ 0x6C ∷ 0x65 ∷ 0x73 ∷ []
+-- text
+headOf Text = 0x20 ∷ 0x20 ∷ 0x74 ∷ 0x65 ∷ 0x78 ∷ 0x74 ∷ []
+-- value
+headOf Value = 0x20 ∷ 0x20 ∷ 0x76 ∷ 0x61 ∷ 0x6C ∷ 0x75 ∷ 0x65 ∷ []
 
 -- a line of the dump: its head, the words of its values, and its end
 abbrev pub dumpLine : Label → List ℕ → List ℕ

@@ -3,8 +3,8 @@ ghost use mathlib.Core.Path.{_≡_};
 ghost use Prim.Native.Nat.{_<_};
 ghost use Rattle.listing.specs.Digits.{digit, hexDigit, decimal, hex};
 ghost use Rattle.listing.specs.Text.{textOf};
-use crate::text::Text;
-use crate::text::word;
+use crate::string::Text;
+use crate::string::word;
 
 // The byte of a decimal digit.
 fn digit(d: usize) -> u8
@@ -15,7 +15,7 @@ fn digit(d: usize) -> u8
 }
 
 // The byte of a hexadecimal digit.
-fn hex_digit(d: u32) -> u8
+pub(crate) fn hex_digit(d: u32) -> u8
     requires { ⌜ d < 16 ⌝ }
     ensures { λ r. ⌜ r ≡ hexDigit d ⌝ }
 {

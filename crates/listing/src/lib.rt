@@ -1,9 +1,20 @@
 // The listing: its lines, and the words of the dump, as texts of ASCII handed back by value.
+mod characters;
 mod chunk;
 mod digits;
-pub mod lines;
-pub mod text;
+mod lines;
+mod string;
 pub mod words;
+
+pub use characters::Piece;
+pub use characters::piece_at;
+pub use lines::first_line;
+pub use lines::item_line;
+pub use lines::last_line;
+pub use lines::long_line;
+pub use lines::none_line;
+pub use string::Text;
+pub use string::word;
 
 // What a line of the dump is about.
 pub enum Label {
@@ -35,4 +46,8 @@ pub enum Label {
     GroupGains,
     // The samples.
     Samples,
+    // The characters of a TEXT.
+    Text,
+    // The number of a SOFH.
+    Value,
 }

@@ -4,9 +4,9 @@ ghost use Rattle.reader.specs.Item.{itemSaid};
 ghost use Rattle.listing.specs.Text.{textOf};
 ghost use Rattle.listing.specs.Lines.{firstLine, countLine, stretchLine, answerLine, lastLine, longLine, noneLine};
 use crate::chunk::chunk;
-use crate::text::Text;
-use crate::text::joined;
-use crate::text::word;
+use crate::string::Text;
+use crate::string::joined;
+use crate::string::word;
 use crate::words::newline;
 use crate::words::number;
 use crate::words::numbered;
@@ -18,8 +18,8 @@ pub fn first_line(order: Order, n: usize) -> Text
     ensures { λ r. ⌜ r ≡ textOf (firstLine order n) ⌝ }
 {
     match order {
-        Order::Big => counted(b"pxgf big", n),
-        Order::Little => counted(b"pxgf little", n),
+        Order::Big => count_line(b"pxgf big", n),
+        Order::Little => count_line(b"pxgf little", n),
     }
 }
 
@@ -44,7 +44,7 @@ pub fn item_line(item: Item) -> Text
 pub fn last_line(count: usize) -> Text
     ensures { λ r. ⌜ r ≡ textOf (lastLine count) ⌝ }
 {
-    counted(b"end", count)
+    count_line(b"end", count)
 }
 
 // There are more bytes than are read.
@@ -62,7 +62,7 @@ pub fn none_line() -> Text
 }
 
 // A head and a number.
-fn counted(head: &[u8], n: usize) -> Text
+fn count_line(head: &[u8], n: usize) -> Text
     ensures { λ r. ⌜ r ≡ textOf (countLine (now (head .entry)) n) ⌝ }
 {
     joined(numbered(head, n), newline())

@@ -6,9 +6,9 @@ ghost use Rattle.listing.specs.Words.{newline, numberWord, integerWord, 
 use crate::Label;
 use crate::digits::eight;
 use crate::digits::natural;
-use crate::text::Text;
-use crate::text::joined;
-use crate::text::word;
+use crate::string::Text;
+use crate::string::joined;
+use crate::string::word;
 
 // The end of a line.
 pub fn newline() -> Text
@@ -68,5 +68,7 @@ pub fn label(which: Label) -> Text
         Label::GroupFrequencies => word(b"  GCF_"),
         Label::GroupGains => word(b"  GRG_"),
         Label::Samples => word(b"  samples"),
+        Label::Text => word(b"  text"),
+        Label::Value => word(b"  value"),
     }
 }

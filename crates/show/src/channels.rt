@@ -1,16 +1,18 @@
 // The lines of a dump for the samples of each channel.
 ghost use mathlib.Core.Path.{_≡_};
 ghost use lib.ListN.{length};
-use crate::put;
+use crate::line::Line;
+use crate::line::start;
+use body::Shape;
+use body::Shaped;
 use listing::Label;
 use listing::words::decimal;
 use listing::words::hex_word;
-use listing::words::label;
-use listing::words::newline;
 use listing::words::number;
 use num::Order;
 use reader::Cursor;
 use samples::Copied;
+use state::State;
 
 // As many numbers of a channel as a stream of the most bytes can hold.
 fn short_room() -> [i16; 32768]
@@ -25,11 +27,37 @@ fn pattern_room() -> [u32; 16384]
     [0; 16384]
 }
 
-// Each channel of the ready chunk at the cursor: its number, the count of its numbers, and these.
-pub(crate) fn each(order: Order, s: &[u8], cursor: Cursor) {
-    for c in 0..16 {
-        shorts(order, s, cursor, c);
-        patterns(order, s, cursor, c);
+// The samples of the ready chunk at the cursor, which shows this state.
+pub(crate) fn each(order: Order, s: &[u8], cursor: Cursor, code: u32, state: State) {
+    if let Shaped::Samples(shape) = body::shape_of(body::kind_of(code)) {
+        let group = state.values.group;
+        lines(order, s, cursor, channels(shape, group.n), is_float(shape));
+    }
+}
+
+// How many channels there are, where a group has n.
+fn channels(shape: Shape, n: usize) -> usize {
+    match shape {
+        Shape::ShortGroup | Shape::FloatGroup => n,
+        Shape::ShortPairs | Shape::ShortReals | Shape::FloatPairs | Shape::FloatReals => 1,
+    }
+}
+
+fn is_float(shape: Shape) -> bool {
+    match shape {
+        Shape::FloatPairs | Shape::FloatReals | Shape::FloatGroup => true,
+        Shape::ShortPairs | Shape::ShortReals | Shape::ShortGroup => false,
+    }
+}
+
+// A line for each channel: its number, the count of its numbers, and these.
+fn lines(order: Order, s: &[u8], cursor: Cursor, channels: usize, float: bool) {
+    for c in 0..channels {
+        if float {
+            patterns(order, s, cursor, c);
+        } else {
+            shorts(order, s, cursor, c);
+        }
     }
 }
 
@@ -37,36 +65,36 @@ fn wide(x: i16) -> i64 {
     x as i64
 }
 
-fn start(channel: usize, count: usize) {
-    put(label(Label::Samples));
-    put(number(channel));
-    put(number(count));
+fn head(channel: usize, count: usize) -> Line {
+    start(Label::Samples)
+        .with(number(channel))
+        .with(number(count))
 }
 
-// 16-bit numbers, in decimal. A chunk of floats has none.
+// 16-bit numbers, in decimal.
 fn shorts(order: Order, s: &[u8], cursor: Cursor, channel: usize) {
     let mut out = short_room();
     if let Copied::Count(n) = samples::shorts_at(order, s, cursor, channel, &mut out) {
-        start(channel, n);
+        let mut line = head(channel, n);
         for i in 0..n {
             if i < 32768 {
-                put(decimal(wide(out[i])));
+                line = line.with(decimal(wide(out[i])));
             }
         }
-        put(newline());
+        line.end();
     }
 }
 
-// 32-bit patterns of floats. A chunk of 16-bit numbers has none.
+// 32-bit patterns of floats.
 fn patterns(order: Order, s: &[u8], cursor: Cursor, channel: usize) {
     let mut out = pattern_room();
     if let Copied::Count(n) = samples::patterns_at(order, s, cursor, channel, &mut out) {
-        start(channel, n);
+        let mut line = head(channel, n);
         for i in 0..n {
             if i < 16384 {
-                put(hex_word(out[i]));
+                line = line.with(hex_word(out[i]));
             }
         }
-        put(newline());
+        line.end();
     }
 }

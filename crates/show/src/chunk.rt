@@ -1,38 +1,92 @@
 // The lines of a dump under a chunk's line.
-use crate::put;
+use crate::line::start;
+use body::Kind;
+use body::Number;
+use body::TextRead;
 use effect::Verdict;
 use listing::Label;
 use listing::words::decimal;
-use listing::words::label;
-use listing::words::newline;
 use num::Order;
 use reader::Cursor;
 use reader::Item;
 use state::State;
 
-// What the item at the cursor shows. Only data chunks that wait or are ready have such lines.
+// What the item at the cursor shows: data that waits or is ready, a text, and the number of a file's header.
 pub(crate) fn shown(order: Order, s: &[u8], cursor: Cursor, item: Item, state: State) {
     if let Item::Chunk {
-        place: _,
-        code: _,
-        size: _,
+        place,
+        code,
+        size,
         verdict,
     } = item {
         match verdict {
-            Verdict::Waits(_, time) => timed(time),
+            Verdict::Waits(_, time) => time_line(time),
             Verdict::Ready(data) => {
-                timed(data.time);
+                time_line(data.time);
                 crate::values::all(state);
-                crate::channels::each(order, s, cursor);
+                crate::channels::each(order, s, cursor, code, state);
             }
-            Verdict::Good | Verdict::Unknown | Verdict::Malformed(_) | Verdict::NotCovered => {}
+            Verdict::Good => framed(order, s, place, code, size),
+            Verdict::Unknown | Verdict::Malformed(_) | Verdict::NotCovered => {}
         }
     }
 }
 
 // The time of the first sample.
-fn timed(time: i64) {
-    put(label(Label::Time));
-    put(decimal(time));
-    put(newline());
+fn time_line(time: i64) {
+    start(Label::Time).with(decimal(time)).end();
+}
+
+// A well-formed chunk without samples, by its frame: every frame that a step gives lies in s.
+fn framed(order: Order, s: &[u8], place: usize, code: u32, size: usize) {
+    if place <= s.len() {
+        let left = s.len() - place;
+        if 12 <= left {
+            if size <= left - 12 {
+                let from = place + 12;
+                let to = from + size;
+                plain(order, code, &s[from..to]);
+            }
+        }
+    }
+}
+
+fn plain(order: Order, code: u32, body: &[u8]) {
+    match body::kind_of(code) {
+        Kind::TEXT => {
+            if let TextRead::Is(n) = body::text(order, body) {
+                text(body, n);
+            }
+        }
+        Kind::SOFH => {
+            if let Number::Is(value) = body::sofh(order, body) {
+                start(Label::Value).with(decimal(value)).end();
+            }
+        }
+        _ => {}
+    }
+}
+
+// A text of n bytes, which stand behind its length: a well-formed body has them all.
+fn text(body: &[u8], n: usize) {
+    if 4 <= body.len() {
+        if n <= body.len() - 4 {
+            let end = 4 + n;
+            text_line(&body[4..end]);
+        }
+    }
+}
+
+// Its characters, piece by piece.
+fn text_line(s: &[u8]) {
+    let mut line = start(Label::Text).with(listing::word(b" "));
+    let mut at = 0;
+    while at < s.len() {
+        let piece = listing::piece_at(s, at);
+        let shown = piece.text;
+        let taken = piece.length;
+        line = line.with(shown);
+        at += taken;
+    }
+    line.end();
 }

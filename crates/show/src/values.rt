@@ -1,5 +1,5 @@
 // The lines of a dump for the values of a state that are present.
-use crate::put;
+use crate::line::start;
 use body::BandHeld;
 use body::GroupGains;
 use body::GroupHertz;
@@ -7,18 +7,15 @@ use body::GroupPacking;
 use body::Held;
 use body::LevelHeld;
 use listing::Label;
+use listing::Text;
 use listing::words::decimal;
 use listing::words::hex_word;
-use listing::words::label;
-use listing::words::newline;
 use listing::words::number;
 use state::State;
 
 // The start mark, then each value, in the order of the kinds.
 pub(crate) fn all(state: State) {
-    put(label(Label::Mark));
-    flag(state.mark);
-    put(newline());
+    start(Label::Mark).with(flag(state.mark)).end();
     let values = state.values;
     held(Label::Packing, values.packing);
     held(Label::Rate, values.rate);
@@ -34,42 +31,32 @@ pub(crate) fn all(state: State) {
 }
 
 // 1 or 0.
-fn flag(yes: bool) {
-    if yes {
-        put(number(1));
-    } else {
-        put(number(0));
-    }
+fn flag(yes: bool) -> Text {
+    if yes { number(1) } else { number(0) }
 }
 
 fn held(which: Label, value: Held) {
     if value.present {
-        put(label(which));
-        put(decimal(value.value));
-        put(newline());
+        start(which).with(decimal(value.value)).end();
     }
 }
 
 fn band(value: BandHeld) {
     if value.present {
-        put(label(Label::Bandwidth));
-        put(decimal(value.width));
-        put(decimal(value.offset));
-        put(newline());
+        let line = start(Label::Bandwidth).with(decimal(value.width));
+        line.with(decimal(value.offset)).end();
     }
 }
 
 fn level(which: Label, value: LevelHeld) {
     if value.present {
-        put(label(which));
-        pattern(value.value);
-        put(newline());
+        start(which).with(pattern(value.value)).end();
     }
 }
 
 // A float's pattern. No state that is shown holds a NaN.
-fn pattern(x: f32) {
-    put(hex_word(body::pattern(x)));
+fn pattern(x: f32) -> Text {
+    hex_word(body::pattern(x))
 }
 
 fn wide(x: u32) -> usize {
@@ -79,46 +66,43 @@ fn wide(x: u32) -> usize {
 fn packing(group: GroupPacking) {
     let n = group.n;
     if 0 < n {
-        put(label(Label::GroupPacking));
-        put(number(n));
-        flag(group.iq);
-        put(number(group.increment as usize));
+        let mut line = start(Label::GroupPacking).with(number(n));
+        line = line.with(flag(group.iq))
+            .with(number(group.increment as usize));
         let offsets = group.offsets;
         for c in 0..16 {
             if c < n {
-                put(number(wide(offsets[c])));
+                line = line.with(number(wide(offsets[c])));
             }
         }
-        put(newline());
+        line.end();
     }
 }
 
 fn hertz(group: GroupHertz) {
     let n = group.n;
     if 0 < n {
-        put(label(Label::GroupFrequencies));
-        put(number(n));
+        let mut line = start(Label::GroupFrequencies).with(number(n));
         let values = group.values;
         for c in 0..16 {
             if c < n {
-                put(decimal(values[c]));
+                line = line.with(decimal(values[c]));
             }
         }
-        put(newline());
+        line.end();
     }
 }
 
 fn gains(group: GroupGains) {
     let n = group.n;
     if 0 < n {
-        put(label(Label::GroupGains));
-        put(number(n));
+        let mut line = start(Label::GroupGains).with(number(n));
         let values = group.values;
         for c in 0..16 {
             if c < n {
-                pattern(values[c]);
+                line = line.with(pattern(values[c]));
             }
         }
-        put(newline());
+        line.end();
     }
 }

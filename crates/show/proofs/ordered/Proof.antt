@@ -13,8 +13,8 @@ abbrev μ-loop : tie.MeasureT-loop
 first-line-requires : tie.Need-first-line-requires Inv-loop μ-loop
 first-line-requires c κs = search needs
 
-put-requires : tie.Need-put-requires Inv-loop μ-loop
-put-requires c κs = search needs
+print-requires : tie.Need-print-requires Inv-loop μ-loop
+print-requires c κs = search needs
 
 count-requires : tie.Need-count-requires Inv-loop μ-loop
 count-requires c κs = search needs
@@ -31,8 +31,8 @@ step-requires c κs = search needs
 item-line-requires : tie.Need-item-line-requires Inv-loop μ-loop
 item-line-requires c κs = search needs
 
-put-requires-2 : tie.Need-put-requires-2 Inv-loop μ-loop
-put-requires-2 c κs = search needs
+print-requires-2 : tie.Need-print-requires-2 Inv-loop μ-loop
+print-requires-2 c κs = search needs
 
 shown-requires : tie.Need-shown-requires Inv-loop μ-loop
 shown-requires c κs = search needs
@@ -49,8 +49,8 @@ loop-again c = search needs
 last-line-requires : tie.Need-last-line-requires Inv-loop μ-loop
 last-line-requires c κs = search needs
 
-put-requires-3 : tie.Need-put-requires-3 Inv-loop μ-loop
-put-requires-3 c κs = search needs
+print-requires-3 : tie.Need-print-requires-3 Inv-loop μ-loop
+print-requires-3 c κs = search needs
 
 returns : tie.Need-returns Inv-loop μ-loop
 returns c = search needs
@@ -62,17 +62,17 @@ ordered-spec =
     Inv-loop
     μ-loop
     first-line-requires
-    put-requires
+    print-requires
     count-requires
     new-requires
     loop-holds
     step-requires
     item-line-requires
-    put-requires-2
+    print-requires-2
     shown-requires
     add-counter
     loop-less
     loop-again
     last-line-requires
-    put-requires-3
+    print-requires-3
     returns)

@@ -129,6 +129,24 @@ slice-aggregate-word-14 c = search needs
 word-requires-14 : tie.Need-word-requires-14
 word-requires-14 c κs = search needs
 
+enum-told-15 : tie.Need-enum-told-15
+enum-told-15 c = search needs
+
+slice-aggregate-word-15 : tie.Need-slice-aggregate-word-15
+slice-aggregate-word-15 c = search needs
+
+word-requires-15 : tie.Need-word-requires-15
+word-requires-15 c κs = search needs
+
+enum-told-16 : tie.Need-enum-told-16
+enum-told-16 c = search needs
+
+slice-aggregate-word-16 : tie.Need-slice-aggregate-word-16
+slice-aggregate-word-16 c = search needs
+
+word-requires-16 : tie.Need-word-requires-16
+word-requires-16 c κs = search needs
+
 returns : tie.Need-returns
 returns c = rw (c .before .before .enum-told .given .1) (c .word .ensures)
 
@@ -170,6 +188,12 @@ returns-13 c = rw (c .before .before .enum-told13 .given .1) (c .word13 .ensures
 
 returns-14 : tie.Need-returns-14
 returns-14 c = rw (c .before .before .enum-told14 .given .1) (c .word14 .ensures)
+
+returns-15 : tie.Need-returns-15
+returns-15 c = rw (c .before .before .enum-told15 .given .1) (c .word15 .ensures)
+
+returns-16 : tie.Need-returns-16
+returns-16 c = rw (c .before .before .enum-told16 .given .1) (c .word16 .ensures)
 
 pub label-spec : {M : Type 1} → statement M
 label-spec =
@@ -217,6 +241,12 @@ label-spec =
     enum-told-14
     slice-aggregate-word-14
     word-requires-14
+    enum-told-15
+    slice-aggregate-word-15
+    word-requires-15
+    enum-told-16
+    slice-aggregate-word-16
+    word-requires-16
     returns
     returns-2
     returns-3
@@ -230,4 +260,6 @@ label-spec =
     returns-11
     returns-12
     returns-13
-    returns-14)
+    returns-14
+    returns-15
+    returns-16)

@@ -5,10 +5,10 @@ use Rattle.show.proofs.channels.shorts.Statement.{statement}
 use Rattle.show.proofs.channels.shorts.Tie as tie
 
 abbrev Inv-loop : tie.InvT-loop
-Inv-loop s channel out n i₀ i = i ≤ n
+Inv-loop s channel out n line₀ i₀ line i = i ≤ n
 
 abbrev μ-loop : tie.MeasureT-loop
-μ-loop s channel out n i₀ i = n - i
+μ-loop s channel out n line₀ i₀ line i = n - i
 
 short-room-requires : tie.Need-short-room-requires Inv-loop μ-loop
 short-room-requires c κs = search needs
@@ -22,8 +22,8 @@ shorts-at-requires c κs = search needs
 enum-known-n : tie.Need-enum-known-n Inv-loop μ-loop
 enum-known-n c = search needs
 
-start-requires : tie.Need-start-requires Inv-loop μ-loop
-start-requires c κs = search needs
+head-requires : tie.Need-head-requires Inv-loop μ-loop
+head-requires c κs = search needs
 
 loop-holds : tie.Need-loop-holds Inv-loop μ-loop
 loop-holds c = search needs
@@ -40,8 +40,8 @@ wide-requires c κs = search needs
 decimal-requires : tie.Need-decimal-requires Inv-loop μ-loop
 decimal-requires c κs = search needs
 
-put-requires : tie.Need-put-requires Inv-loop μ-loop
-put-requires c κs = search needs
+with-requires : tie.Need-with-requires Inv-loop μ-loop
+with-requires c κs = search needs
 
 add-i : tie.Need-add-i Inv-loop μ-loop
 add-i c = search needs
@@ -52,11 +52,8 @@ loop-less c = search needs
 loop-again : tie.Need-loop-again Inv-loop μ-loop
 loop-again c = search needs
 
-newline-requires : tie.Need-newline-requires Inv-loop μ-loop
-newline-requires c κs = search needs
-
-put-requires-2 : tie.Need-put-requires-2 Inv-loop μ-loop
-put-requires-2 c κs = search needs
+end-requires : tie.Need-end-requires Inv-loop μ-loop
+end-requires c κs = search needs
 
 returns : tie.Need-returns Inv-loop μ-loop
 returns c = search needs
@@ -74,17 +71,16 @@ shorts-spec =
     slice-aggregate-shorts-at
     shorts-at-requires
     enum-known-n
-    start-requires
+    head-requires
     loop-holds
     mul-wide
     array-copy-out-wide
     wide-requires
     decimal-requires
-    put-requires
+    with-requires
     add-i
     loop-less
     loop-again
-    newline-requires
-    put-requires-2
+    end-requires
     returns
     returns-2)

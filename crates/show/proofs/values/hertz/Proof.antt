@@ -5,22 +5,19 @@ use Rattle.show.proofs.values.hertz.Statement.{statement}
 use Rattle.show.proofs.values.hertz.Tie as tie
 
 abbrev Inv-loop : tie.InvT-loop
-Inv-loop n values c₀ c = c ≤ 16
+Inv-loop n line₀ values c₀ line c = c ≤ 16
 
 abbrev μ-loop : tie.MeasureT-loop
-μ-loop n values c₀ c = 16 - c
+μ-loop n line₀ values c₀ line c = 16 - c
 
-label-requires : tie.Need-label-requires Inv-loop μ-loop
-label-requires c κs = search needs
-
-put-requires : tie.Need-put-requires Inv-loop μ-loop
-put-requires c κs = search needs
+start-requires : tie.Need-start-requires Inv-loop μ-loop
+start-requires c κs = search needs
 
 number-requires : tie.Need-number-requires Inv-loop μ-loop
 number-requires c κs = search needs
 
-put-requires-2 : tie.Need-put-requires-2 Inv-loop μ-loop
-put-requires-2 c κs = search needs
+with-requires : tie.Need-with-requires Inv-loop μ-loop
+with-requires c κs = search needs
 
 loop-holds : tie.Need-loop-holds Inv-loop μ-loop
 loop-holds c = search needs
@@ -34,8 +31,8 @@ array-copy-out-decimal c = search needs
 decimal-requires : tie.Need-decimal-requires Inv-loop μ-loop
 decimal-requires c κs = search needs
 
-put-requires-3 : tie.Need-put-requires-3 Inv-loop μ-loop
-put-requires-3 c κs = search needs
+with-requires-2 : tie.Need-with-requires-2 Inv-loop μ-loop
+with-requires-2 c κs = search needs
 
 add-c : tie.Need-add-c Inv-loop μ-loop
 add-c c = search needs
@@ -46,11 +43,8 @@ loop-less c = search needs
 loop-again : tie.Need-loop-again Inv-loop μ-loop
 loop-again c = search needs
 
-newline-requires : tie.Need-newline-requires Inv-loop μ-loop
-newline-requires c κs = search needs
-
-put-requires-4 : tie.Need-put-requires-4 Inv-loop μ-loop
-put-requires-4 c κs = search needs
+end-requires : tie.Need-end-requires Inv-loop μ-loop
+end-requires c κs = search needs
 
 returns : tie.Need-returns Inv-loop μ-loop
 returns c = search needs
@@ -64,19 +58,17 @@ hertz-spec =
     (tie.spec
     Inv-loop
     μ-loop
-    label-requires
-    put-requires
+    start-requires
     number-requires
-    put-requires-2
+    with-requires
     loop-holds
     mul-decimal
     array-copy-out-decimal
     decimal-requires
-    put-requires-3
+    with-requires-2
     add-c
     loop-less
     loop-again
-    newline-requires
-    put-requires-4
+    end-requires
     returns
     returns-2)

@@ -7,9 +7,9 @@ use native.Mathlib.Omega.{arith}
 use borrow.Author.Needs.{needs}
 use lib.ListN.{length, drop, drop-of-length-le}
 use lib.Seq.{drop-cons}
-use Rattle.listing.specs.Text.{joins}
-use Rattle.listing.proofs.text.extended.Statement.{statement}
-use Rattle.listing.proofs.text.extended.Tie as tie
+use Rattle.listing.specs.Inner.Text.{joins}
+use Rattle.listing.proofs.string.extended.Statement.{statement}
+use Rattle.listing.proofs.string.extended.Tie as tie
 
 abbrev Inv-loop : tie.InvT-loop
 Inv-loop s text₀ i₀ text i = (i ≤ length s) × (joins text (drop i s) ≡ joins text₀ s)

@@ -3,8 +3,8 @@ use mathlib.Core.Path.{_∙_}
 use Rattle.listing.specs.Lines.{countLine}
 use Rattle.listing.proofs.Texts.{join-texts}
 use borrow.Author.Needs.{needs}
-use Rattle.listing.proofs.lines.counted.Statement.{statement}
-use Rattle.listing.proofs.lines.counted.Tie as tie
+use Rattle.listing.proofs.lines.count_line.Statement.{statement}
+use Rattle.listing.proofs.lines.count_line.Tie as tie
 
 numbered-requires : tie.Need-numbered-requires
 numbered-requires c κs = search needs
@@ -19,5 +19,5 @@ returns : tie.Need-returns
 unfolding countLine
 returns c = c .joined .ensures ∙ join-texts _ _ _ _ (c .before .before .numbered .ensures) (c .before .newline .ensures)
 
-pub counted-spec : {M : Type 1} → statement M
-counted-spec = tie.close (tie.spec numbered-requires newline-requires joined-requires returns)
+pub count-line-spec : {M : Type 1} → statement M
+count-line-spec = tie.close (tie.spec numbered-requires newline-requires joined-requires returns)

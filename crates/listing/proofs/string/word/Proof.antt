@@ -2,11 +2,11 @@
 use mathlib.Core.Path.{ap, _∙_}
 use mathlib.Core.List.{[]}
 use borrow.Author.Needs.{needs}
-use Rattle.listing.specs.Text.{joins}
-use Rattle.listing.specs.declared.text.Text.{Text}
+use Rattle.listing.specs.Inner.Text.{joins}
+use Rattle.listing.specs.declared.string.Text.{Text}
 use Rattle.listing.proofs.Texts.{joins-text}
-use Rattle.listing.proofs.text.word.Statement.{statement}
-use Rattle.listing.proofs.text.word.Tie as tie
+use Rattle.listing.proofs.string.word.Statement.{statement}
+use Rattle.listing.proofs.string.word.Tie as tie
 
 empty-requires : tie.Need-empty-requires
 empty-requires c κs = search needs

@@ -1,7 +1,8 @@
 // A text by value, and how one grows.
 ghost use mathlib.Core.Path.{_≡_};
 ghost use mathlib.Core.List.{[]};
-ghost use Rattle.listing.specs.Text.{textOf, shown, push, joins};
+ghost use Rattle.listing.specs.Text.{textOf, shown};
+ghost use Rattle.listing.specs.Inner.Text.{push, joins};
 
 // A text is the first len bytes. The functions of this crate leave 0 at every place past them.
 pub struct Text {
@@ -48,8 +49,8 @@ fn extended(t: Text, s: &[u8]) -> Text
     text
 }
 
-// The text of some bytes.
-pub(crate) fn word(s: &[u8]) -> Text
+// The text of some bytes, those past the first 96 dropped.
+pub fn word(s: &[u8]) -> Text
     ensures { λ r. ⌜ r ≡ textOf (now (s .entry)) ⌝ }
 {
     extended(empty(), s)

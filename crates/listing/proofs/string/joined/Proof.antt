@@ -4,9 +4,9 @@ use native.Mathlib.Omega.{arith}
 use borrow.Author.Needs.{needs}
 use lib.ListN.{length}
 use lib.Seq.{length-take-le, take-all}
-use Rattle.listing.specs.Text.{joins}
-use Rattle.listing.proofs.text.joined.Statement.{statement}
-use Rattle.listing.proofs.text.joined.Tie as tie
+use Rattle.listing.specs.Inner.Text.{joins}
+use Rattle.listing.proofs.string.joined.Statement.{statement}
+use Rattle.listing.proofs.string.joined.Tie as tie
 
 slice-aggregate-all : tie.Need-slice-aggregate-all
 slice-aggregate-all c = search needs

@@ -1,8 +1,8 @@
 -- The byte is stored behind the others where the length is below 96, which is the test of the definition.
 use borrow.Author.Needs.{needs}
 use borrow.Author.Tests.{lt-ltb, le-ltb}
-use Rattle.listing.proofs.text.pushed.Statement.{statement}
-use Rattle.listing.proofs.text.pushed.Tie as tie
+use Rattle.listing.proofs.string.pushed.Statement.{statement}
+use Rattle.listing.proofs.string.pushed.Tie as tie
 
 array-write-bytes : tie.Need-array-write-bytes
 array-write-bytes c = search needs
