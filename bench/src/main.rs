@@ -1,5 +1,6 @@
 //! The library's compiled code against the second program's and against what the machine can do at most, as a table.
 
+mod fast;
 mod inputs;
 mod limits;
 mod moves;
@@ -13,11 +14,12 @@ use moves::{ANSWER, CURSOR};
 use ours::Number;
 use race::{middle, race, Run, Times};
 use second::write::write_record;
-use second::{count_items, search, Item, Kind, Order, Reader, Ready, Verdict};
+use second::{Item, Kind, Order, Ready, Verdict};
 use std::hint::black_box;
 use table::{grown, table, Growth, Row};
 
 fn main() {
+    fast::agrees();
     let mut rows = Vec::new();
     steps(&mut rows);
     searches(&mut rows);
@@ -65,7 +67,7 @@ fn is_sound(item: &Item) -> bool {
 }
 
 fn sound(order: Order, s: &[u8]) -> usize {
-    Reader::new(order, s).filter(is_sound).count()
+    fast::reader(order, s).filter(is_sound).count()
 }
 
 /// The same, and beside each step what a step by value moves: the cursor comes in and goes into the answer, which shows a state
@@ -79,7 +81,7 @@ fn sound_by_value(order: Order, s: &[u8]) -> usize {
         cursor.copy_from_slice(&black_box(&answer)[(ANSWER - CURSOR) / 8..]);
         is_sound(item)
     };
-    Reader::new(order, s).filter(moved).count()
+    fast::reader(order, s).filter(moved).count()
 }
 
 fn steps(rows: &mut Vec<Row>) {
@@ -103,7 +105,7 @@ fn searches(rows: &mut Vec<Row>) {
     for (what, s) in inputs::noise(4 * MIB) {
         let work = format!("search, {what}");
         let ours = || ours::search(order, &s, 0);
-        let rust = || search(order, &s, 0).unwrap_or(s.len());
+        let rust = || fast::search(order, &s, 0).unwrap_or(s.len());
         let mut contestants: Vec<Run> = vec![
             Box::new(ours),
             Box::new(rust),
@@ -131,7 +133,7 @@ fn searches(rows: &mut Vec<Row>) {
 
 /// The first ready chunk of a stream.
 fn ready(order: Order, s: &[u8]) -> Ready<'_> {
-    Reader::new(order, s)
+    fast::reader(order, s)
         .find_map(|item| match item {
             Item::Chunk {
                 verdict: Verdict::Ready(ready),
@@ -152,7 +154,7 @@ fn copying<T: Number>(
     s: &[u8],
     channel: usize,
 ) {
-    let steps = count_items(order, metas);
+    let steps = fast::count(order, metas);
     let ready = ready(order, s);
     let n = ready.numbers();
     let bytes = n * size_of::<T>();
@@ -269,7 +271,7 @@ fn texts(rows: &mut Vec<Row>) {
 
 /// Every chunk of a stream as a record.
 fn records(order: Order, s: &[u8]) -> Vec<(u32, &[u8])> {
-    Reader::new(order, s)
+    fast::reader(order, s)
         .filter_map(|item| match item {
             Item::Chunk { frame, .. } => Some((frame.code, frame.body(s))),
             _ => None,
@@ -325,7 +327,7 @@ fn growths(rows: &mut Vec<Row>) -> Vec<Growth> {
         whole.len(),
         vec![
             Box::new(|| ours::count(order, &whole)),
-            Box::new(|| count_items(order, &whole)),
+            Box::new(|| fast::count(order, &whole)),
         ],
     );
     let grow = |work, run: &dyn Fn(usize) -> usize| Growth {

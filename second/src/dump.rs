@@ -1,7 +1,9 @@
-//! The listing with all that data chunks show.
+//! The listing with all that data chunks show, with texts, and with the
+//! number of a file's start.
 
 use std::fmt::{Display, UpperHex, Write};
 
+use crate::body::Body;
 use crate::kind::Width;
 use crate::list::{line, listing};
 use crate::reader::Verdict;
@@ -12,8 +14,26 @@ pub fn dump(bytes: &[u8]) -> String {
     listing(bytes, |verdict, text| match verdict {
         Verdict::Waits { time, .. } => line(text, format_args!("  time {time}")),
         Verdict::Ready(ready) => dump_ready(text, ready),
+        Verdict::Plain(Body::Text(note)) => dump_text(text, note),
+        Verdict::Plain(Body::FileStart(number)) => line(text, format_args!("  value {number}")),
         Verdict::Unknown | Verdict::Malformed(_) | Verdict::NoCover | Verdict::Plain(_) => {}
     })
+}
+
+/// The characters of a text as they stand. Control characters could break the
+/// line or change how it looks, so they stand as `\x` and the two hex digits of
+/// their number; so does the backslash, to be told from these.
+fn dump_text(text: &mut String, note: &str) {
+    text.push_str("  text ");
+    for character in note.chars() {
+        match character {
+            '\0'..='\x1F' | '\x7F'..='\u{9F}' | '\\' => {
+                let _ = write!(text, "\\x{:02X}", u32::from(character));
+            }
+            _ => text.push(character),
+        }
+    }
+    text.push('\n');
 }
 
 fn dump_ready(text: &mut String, ready: &Ready) {

@@ -42,6 +42,7 @@ pub fn size_is_good(size: u32) -> bool {
     size <= LARGEST_BODY && size.is_multiple_of(4)
 }
 
+#[inline]
 pub fn look(order: Order, stream: &[u8], place: usize) -> Look {
     let rest = stream.get(place..).unwrap_or_default();
     if !rest.starts_with(&order.sync()) {

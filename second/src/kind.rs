@@ -159,11 +159,6 @@ impl Kind {
         })
     }
 
-    pub fn from_name(name: &str) -> Option<Kind> {
-        let letters: [u8; 4] = name.as_bytes().try_into().ok()?;
-        Kind::from_code(u32::from_be_bytes(letters))
-    }
-
     /// The form of the samples, for the kinds that carry any.
     pub const fn data_form(self) -> Option<DataForm> {
         let (width, complex, group) = match self {

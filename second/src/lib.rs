@@ -5,15 +5,16 @@
 //! finds sync words, [`frame`] judges one place, [`walk`] cuts a stream into
 //! items, [`check`] judges bodies and gives what [`body`] names, [`state`] and
 //! [`cover`] decide what a data chunk means, [`reader`] joins them, and
-//! [`samples`] copies numbers out. On top stand [`mod@list`], [`mod@dump`],
-//! [`filecheck`] and [`write`](mod@write); [`make`](mod@make) and
-//! [`recordings`] put streams together, and [`trials`] holds what is
-//! compared.
+//! [`samples`] copies numbers out; [`cursor`] lets both begin anywhere, with
+//! any state. On top stand [`mod@list`], [`mod@dump`], [`filecheck`] and
+//! [`write`](mod@write); [`make`](mod@make) and [`recordings`] put streams
+//! together, and [`trials`] holds what is compared.
 
 pub mod body;
 pub mod check;
 pub mod compose;
 pub mod cover;
+pub mod cursor;
 pub mod dump;
 pub mod filecheck;
 pub mod frame;
@@ -43,4 +44,4 @@ pub use order::Order;
 pub use reader::{Item, Reader, Verdict};
 pub use samples::{CopyRefusal, Ready};
 pub use search::{find_order, search};
-pub use walk::{count_items, Walk};
+pub use walk::Walk;

@@ -2,24 +2,21 @@
 
 use std::env;
 use std::fs::{self, File};
-use std::io::{self, BufRead, BufWriter, Read, Write};
+use std::io::{self, BufWriter, Read, Write};
 use std::path::Path;
 use std::process::ExitCode;
 
-use second::filecheck::check_file;
 use second::list::MOST_BYTES;
-use second::order::Order;
 use second::trials::Met;
 use second::verdicts::{Pair, Verdicts};
-use second::{dump, list, make, pack, recordings, trials, utf8, write};
+use second::{dump, list, make, pack, recordings, trials, utf8};
 
 const USAGE: &str = "usage: second list FILE
        second dump FILE
-       second check big|little FILE
        second make SEED
        second verdicts FILE...
-       second write big|little [--bytes]
        second samples DIR
+       second sized BYTES
        second streams SEED COUNT MOST
        second trials FILE
        second met FILE
@@ -43,18 +40,16 @@ fn run(words: &[&str]) -> Result<ExitCode, String> {
     match words {
         ["list", file] => print(list::list(&read_for_listing(file)?).as_bytes()),
         ["dump", file] => print(dump::dump(&read_for_listing(file)?).as_bytes()),
-        ["check", order, file] => {
-            let answer = match check_file(parse_order(order)?, &read(file)?) {
-                Ok(items) => format!("good {items}\n"),
-                Err(refusal) => format!("refused {} {}\n", refusal.number(), refusal.place()),
-            };
-            print(answer.as_bytes())
-        }
         ["make", seed] => print(&make::make(parse_number(seed)?)),
         ["verdicts", files @ ..] if !files.is_empty() => count_verdicts(files),
-        ["write", order] => write_records(parse_order(order)?, false),
-        ["write", order, "--bytes"] => write_records(parse_order(order)?, true),
         ["samples", dir] => write_samples(Path::new(dir)),
+        ["sized", bytes] => {
+            let bytes = parse_number(bytes)? as usize;
+            if bytes < 64 {
+                return Err(format!("{bytes} are too few bytes"));
+            }
+            print(&recordings::sized(bytes))
+        }
         ["streams", seed, count, most] => {
             let (seed, count, most) = (
                 parse_number(seed)?,
@@ -90,10 +85,6 @@ fn run(words: &[&str]) -> Result<ExitCode, String> {
         }
         _ => Err(USAGE.to_owned()),
     }
-}
-
-fn parse_order(word: &str) -> Result<Order, String> {
-    Order::from_name(word).ok_or_else(|| format!("{word} is not big or little"))
 }
 
 fn parse_number(word: &str) -> Result<u64, String> {
@@ -180,26 +171,6 @@ fn run_trials(file: &str) -> Result<(String, Met), String> {
         .map(|stream| trials::trial(stream, &mut met))
         .collect();
     Ok((text, met))
-}
-
-/// Prints a verdict for each record, or the bytes of the accepted ones.
-fn write_records(order: Order, bytes: bool) -> Result<ExitCode, String> {
-    let mut verdicts = String::new();
-    let mut stream = Vec::new();
-    for (number, line) in io::stdin().lock().lines().enumerate() {
-        let line = line.map_err(|e| e.to_string())?;
-        let (code, body) = write::parse_record(&line)
-            .ok_or_else(|| format!("line {} is no record", number + 1))?;
-        match write::write_record(order, code, &body, &mut stream) {
-            Ok(size) => verdicts.push_str(&format!("ok {size}\n")),
-            Err(refusal) => verdicts.push_str(&format!("refused {}\n", refusal.number())),
-        }
-    }
-    if bytes {
-        print(&stream)
-    } else {
-        print(verdicts.as_bytes())
-    }
 }
 
 fn write_samples(dir: &Path) -> Result<ExitCode, String> {

@@ -11,14 +11,6 @@ pub enum Order {
 pub const SYNC: u32 = 0xA1B2_C3D4;
 
 impl Order {
-    pub fn from_name(name: &str) -> Option<Order> {
-        match name {
-            "big" => Some(Order::Big),
-            "little" => Some(Order::Little),
-            _ => None,
-        }
-    }
-
     pub const fn name(self) -> &'static str {
         match self {
             Order::Big => "big",

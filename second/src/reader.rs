@@ -1,6 +1,6 @@
 //! Reading a stream: items, verdicts and the state shown with data.
 
-use crate::body::{Body, Fault};
+use crate::body::{Body, Fault, GroupPacking};
 use crate::check::check;
 use crate::cover::covers;
 use crate::frame::Frame;
@@ -8,7 +8,7 @@ use crate::kind::{DataForm, Kind};
 use crate::order::Order;
 use crate::samples::Ready;
 use crate::state::{Lack, State};
-use crate::walk::{Span, Walk};
+use crate::walk::{Search, Span, Walk};
 
 /// Number of the refusal of a group chunk whose layout doesn't cover it.
 pub const NO_COVER: u32 = 16;
@@ -51,20 +51,45 @@ pub enum Verdict<'a> {
     Ready(Ready<'a>),
 }
 
+/// Whether a layout covers so many pairs.
+pub type Cover = fn(&GroupPacking, usize) -> bool;
+
 /// Gives the items of a stream one after the other.
 #[derive(Clone, Debug)]
 pub struct Reader<'a> {
     walk: Walk<'a>,
     state: State,
     start: bool,
+    covers: Cover,
 }
 
 impl<'a> Reader<'a> {
     pub fn new(order: Order, stream: &'a [u8]) -> Self {
+        Reader::from(Walk::new(order, stream), State::default(), false)
+    }
+
+    /// From where a walk stands, with this state and start mark.
+    pub fn from(walk: Walk<'a>, state: State, start: bool) -> Self {
         Reader {
-            walk: Walk::new(order, stream),
-            state: State::default(),
-            start: false,
+            walk,
+            state,
+            start,
+            covers,
+        }
+    }
+
+    /// Where the reader stands.
+    pub fn walk(&self) -> &Walk<'a> {
+        &self.walk
+    }
+
+    /// The same reader by another search and another test of cover, which
+    /// have to give the same answers. The benchmark has fast ones.
+    pub fn by(self, search: Search, covers: Cover) -> Self {
+        Reader {
+            walk: self.walk.by(search),
+            covers,
+            ..self
         }
     }
 
@@ -100,7 +125,7 @@ impl<'a> Reader<'a> {
         }
         let group = self.state.group_packing.filter(|_| form.group);
         if let Some(layout) = &group {
-            if !covers(layout, samples.len() / form.sample_bytes()) {
+            if !(self.covers)(layout, samples.len() / form.sample_bytes()) {
                 return Verdict::NoCover;
             }
         }

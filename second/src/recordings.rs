@@ -19,7 +19,22 @@ pub fn all() -> Vec<(&'static str, Vec<u8>)> {
         ("group.pxgf", group()),
         ("little.pxgf", little()),
         ("damaged.pxgf", damaged()),
+        ("notes.pxgf", notes()),
     ]
+}
+
+/// A stream of so many bytes, at least 64: a data chunk that ends with them,
+/// but for one to three bytes that make no whole pair.
+pub fn sized(bytes: usize) -> Vec<u8> {
+    let mut stream = Composer::new(Order::Big);
+    stream.int(Kind::Siqp, 1).long(Kind::Sr, 48 * KILOHERTZ);
+    // The chunk has a header and a time, and then pairs of four bytes.
+    let pairs = (bytes - stream.len() - 20) / 4;
+    let numbers: Vec<i16> = (0..2 * pairs).map(|k| k as i16).collect();
+    stream.shorts(Kind::Ssnc, NOON, &numbers);
+    let left = bytes - stream.len();
+    stream.raw(&[0; 3][..left]);
+    stream.into_bytes()
 }
 
 /// A file with a header and three blocks, the third after a gap in time.
@@ -135,4 +150,15 @@ fn damaged() -> Vec<u8> {
     let cut = stream.len() - 5;
     stream.cut(cut);
     stream.into_bytes()
+}
+
+/// A file that is all header: texts with characters of every sort, and one
+/// without any.
+fn notes() -> Vec<u8> {
+    let mut file = Composer::new(Order::Big);
+    file.int(Kind::Sofh, -2)
+        .text("Zürich, 12 µW\tnorth \\ south\r\n\u{85}\u{7F}\0 東")
+        .text("")
+        .empty(Kind::Eofh);
+    file.into_bytes()
 }

@@ -1,6 +1,8 @@
 //! What is compared with the library for each stream: its dump, the file
 //! check in both orders, and digests of what copying and writing answer and
-//! leave behind.
+//! leave behind, and of what cursors made at will are answered.
+
+mod cursors;
 
 use std::collections::BTreeMap;
 
@@ -15,9 +17,14 @@ use crate::samples::CopyRefusal;
 use crate::verdicts::Verdicts;
 use crate::write::write_at;
 
-/// The channels copied from, and the lengths of the outputs copied into.
+/// The length of the outputs of a copy, and what they hold before it.
+const ROOM: usize = 64;
+const SHORT: i16 = -0x5556;
+const PATTERN: u32 = 0xAAAA_AAAA;
+
+/// The channels copied from, and how much of an output is copied into.
 const CHANNELS: [usize; 4] = [0, 1, 15, 16];
-const ROOMS: [usize; 3] = [0, 6, 64];
+const ROOMS: [usize; 3] = [0, 6, ROOM];
 
 /// The length of the output written into, from bodies and from values.
 const OUT_BYTES: usize = 512;
@@ -33,11 +40,13 @@ const ORDERS: [(&str, Order, Order); 3] = [
     ("turned", Order::Big, Order::Little),
 ];
 
-/// A running digest of numbers.
+/// A running digest of numbers of 32 bits.
 struct Digest(u64);
 
 impl Digest {
-    const PRIME: u64 = 4_294_967_291;
+    /// Above 2^32, so that no two numbers fall together, and so small that 31
+    /// times it fits into 64 bits.
+    const PRIME: u64 = 288_230_376_151_711_717;
 
     fn new() -> Self {
         Digest(1)
@@ -51,6 +60,33 @@ impl Digest {
     fn add_refusal(&mut self, number: u32) {
         self.add(4_000_000_000);
         self.add(number.into());
+    }
+
+    /// What a copy of each width answered, a count or a refusal's number, and
+    /// what both outputs then hold, in turn.
+    fn add_copies(
+        &mut self,
+        answers: [Result<usize, u32>; 2],
+        shorts: [i16; ROOM],
+        patterns: [u32; ROOM],
+        met: &mut Met,
+    ) {
+        for answer in answers {
+            match answer {
+                Ok(count) => {
+                    met.answer("copy", "count");
+                    self.add(count as u64);
+                }
+                Err(number) => {
+                    met.answer("copy", &number.to_string());
+                    self.add_refusal(number);
+                }
+            }
+        }
+        for (number, pattern) in shorts.into_iter().zip(patterns) {
+            self.add(u64::from(number as u16));
+            self.add(pattern.into());
+        }
     }
 }
 
@@ -102,11 +138,12 @@ impl Met {
     }
 }
 
-/// The answers of the file check, of copying and of writing.
+/// The answers of the file check, of copying, of a step and of writing.
 fn expected() -> impl Iterator<Item = String> {
-    let calls: [(&str, &[&str]); 3] = [
+    let calls: [(&str, &[&str]); 4] = [
         ("check", &["good", "41", "42", "43", "44"]),
-        ("copy", &["count", "33", "34", "35"]),
+        ("copy", &["count", "2", "3", "33", "34", "35"]),
+        ("step", &["item", "end", "2", "3"]),
         (
             "write",
             &["next", "2", "11", "12", "13", "14", "15", "31", "32"],
@@ -177,6 +214,10 @@ pub fn trial(stream: &[u8], met: &mut Met) -> String {
         let digest = values(read, written, stream);
         line(&mut text, format_args!("values {name} {digest}"));
     }
+    for order in [Order::Big, Order::Little] {
+        let digest = cursors::digest(order, stream, met);
+        line(&mut text, format_args!("cursors {} {digest}", order.name()));
+    }
     text
 }
 
@@ -192,36 +233,19 @@ fn copies(order: Order, stream: &[u8], met: &mut Met) -> u64 {
             } => Some(ready),
             _ => None,
         };
-        let mut told = |answer: Result<usize, CopyRefusal>, digest: &mut Digest| match answer {
-            Ok(count) => {
-                met.answer("copy", "count");
-                digest.add(count as u64);
-            }
-            Err(refusal) => {
-                met.answer("copy", &refusal.number().to_string());
-                digest.add_refusal(refusal.number());
-            }
-        };
         for channel in CHANNELS {
             for room in ROOMS {
-                let mut shorts = [-0x5556i16; 64];
-                let answer = match ready {
-                    Some(ready) => ready.copy_shorts(channel, &mut shorts[..room]),
-                    None => Err(CopyRefusal::Width),
+                let mut shorts = [SHORT; ROOM];
+                let mut patterns = [PATTERN; ROOM];
+                let answers = match ready {
+                    Some(ready) => [
+                        ready.copy_shorts(channel, &mut shorts[..room]),
+                        ready.copy_patterns(channel, &mut patterns[..room]),
+                    ],
+                    None => [Err(CopyRefusal::Width); 2],
                 };
-                told(answer, &mut digest);
-                for number in shorts {
-                    digest.add(u64::from(number as u16));
-                }
-                let mut patterns = [0xAAAA_AAAAu32; 64];
-                let answer = match ready {
-                    Some(ready) => ready.copy_patterns(channel, &mut patterns[..room]),
-                    None => Err(CopyRefusal::Width),
-                };
-                told(answer, &mut digest);
-                for pattern in patterns {
-                    digest.add(pattern.into());
-                }
+                let answers = answers.map(|answer| answer.map_err(CopyRefusal::number));
+                digest.add_copies(answers, shorts, patterns, met);
             }
         }
     }

@@ -31,11 +31,20 @@ const DAMAGE: [&[u8]; 22] = [
     &[0xF0, 0x9F, 0x98],
 ];
 
-/// The first and last characters of each length, and others.
-const EDGES: [char; 12] = [
+/// The first and last characters of each length, those about which a dump
+/// does not show a character as it stands, and others.
+const EDGES: [char; 20] = [
     '\0',
+    '\n',
+    '\u{1F}',
+    ' ',
+    '\\',
+    '~',
     '\u{7F}',
     '\u{80}',
+    '\u{85}',
+    '\u{9F}',
+    '\u{A0}',
     '\u{7FF}',
     '\u{800}',
     '\u{FFF}',

@@ -24,6 +24,9 @@ pub enum Span {
     },
 }
 
+/// The place of the next complete or unfinished chunk, from a place on.
+pub type Search = fn(Order, &[u8], usize) -> Option<usize>;
+
 /// Steps through a stream; starts searching.
 #[derive(Clone, Debug)]
 pub struct Walk<'a> {
@@ -31,16 +34,29 @@ pub struct Walk<'a> {
     stream: &'a [u8],
     place: usize,
     in_step: bool,
+    search: Search,
 }
 
 impl<'a> Walk<'a> {
     pub fn new(order: Order, stream: &'a [u8]) -> Self {
+        Walk::at(order, stream, 0, false)
+    }
+
+    /// From a place that isn't past the end, in step or searching.
+    pub fn at(order: Order, stream: &'a [u8], place: usize, in_step: bool) -> Self {
         Walk {
             order,
             stream,
-            place: 0,
-            in_step: false,
+            place,
+            in_step,
+            search,
         }
+    }
+
+    /// The same walk by another search, which has to find the same places.
+    /// The benchmark has one that is made to be fast.
+    pub fn by(self, search: Search) -> Self {
+        Walk { search, ..self }
     }
 
     pub fn order(&self) -> Order {
@@ -50,11 +66,20 @@ impl<'a> Walk<'a> {
     pub fn stream(&self) -> &'a [u8] {
         self.stream
     }
+
+    pub fn place(&self) -> usize {
+        self.place
+    }
+
+    pub fn in_step(&self) -> bool {
+        self.in_step
+    }
 }
 
 impl Iterator for Walk<'_> {
     type Item = Span;
 
+    #[inline]
     fn next(&mut self) -> Option<Span> {
         let place = self.place;
         let end = self.stream.len();
@@ -75,15 +100,10 @@ impl Iterator for Walk<'_> {
             }
             Look::NoSync | Look::Bad => {
                 self.in_step = false;
-                self.place = search(self.order, self.stream, place + 1).unwrap_or(end);
+                self.place = (self.search)(self.order, self.stream, place + 1).unwrap_or(end);
                 let len = self.place - place;
                 Span::Skipped { place, len }
             }
         })
     }
-}
-
-/// The number of items a reader of this order gives.
-pub fn count_items(order: Order, stream: &[u8]) -> usize {
-    Walk::new(order, stream).count()
 }

@@ -69,34 +69,3 @@ pub fn write_at(
         .copy_from_slice(&chunk);
     Ok(place + chunk.len())
 }
-
-/// A line of input: a type, as eight hex digits or the four letters of a
-/// known kind, and a body in hex, `-` if empty.
-pub fn parse_record(line: &str) -> Option<(u32, Vec<u8>)> {
-    let mut words = line.split_whitespace();
-    let (code, body) = (words.next()?, words.next()?);
-    if words.next().is_some() {
-        return None;
-    }
-    let code = match Kind::from_name(code) {
-        Some(kind) => kind.code(),
-        None => u32::from_be_bytes(hex(code)?.try_into().ok()?),
-    };
-    let body = match body {
-        "-" => Vec::new(),
-        digits => hex(digits)?,
-    };
-    Some((code, body))
-}
-
-fn hex(digits: &str) -> Option<Vec<u8>> {
-    let (pairs, rest) = digits.as_bytes().as_chunks::<2>();
-    if !rest.is_empty() {
-        return None;
-    }
-    let digit = |d: u8| char::from(d).to_digit(16);
-    pairs
-        .iter()
-        .map(|[high, low]| Some((digit(*high)? * 16 + digit(*low)?) as u8))
-        .collect()
-}

@@ -3,10 +3,12 @@
 mod common;
 
 use common::hex;
+use second::compose::Composer;
 use second::dump::dump;
 use second::kind::Kind;
 use second::list::list;
 use second::order::Order;
+use second::recordings::sized;
 
 const EXAMPLE: &str = "00A1B2
     A1B2C3D4 43465F5F 00000008 00000000000003E8
@@ -49,6 +51,51 @@ fn the_limit() {
     input.push(0);
     assert_eq!(list(&input), "long\n");
     assert_eq!(list(&[0; 65_537]), "long\n");
+}
+
+#[test]
+fn recordings_about_the_limit() {
+    for bytes in [64, 65_533, 65_534, 65_535, 65_536, 65_537] {
+        let input = sized(bytes);
+        assert_eq!(input.len(), bytes);
+        // SIQP has 16 bytes and SR__ 20.
+        let (size, over) = (bytes / 4 * 4 - 48, bytes % 4);
+        let skip = match over {
+            0 => "end 3\n".to_owned(),
+            _ => format!("skip {} {over}\nend 4\n", bytes - over),
+        };
+        let expected = match bytes {
+            65_537 => "long\n".to_owned(),
+            _ => format!(
+                "pxgf big {bytes}\nchunk 0 SIQP 4 ok\nchunk 16 SR__ 8 ok\n\
+                 chunk 36 SSNC {size} ok\n{skip}"
+            ),
+        };
+        assert_eq!(list(&input), expected);
+    }
+}
+
+#[test]
+fn characters_of_a_text() {
+    let mut stream = Composer::new(Order::Little);
+    let text = "\0a\n\u{1F} ~\u{7F}\u{80}\u{85}\u{9F}\u{A0}\\x0A é\u{10FFFF}";
+    stream
+        .text(text)
+        .text("")
+        .int(Kind::Sofh, i32::MIN)
+        .chunk(Kind::Sofh, &[])
+        .chunk(Kind::Text, &[]);
+    let expected = "pxgf little 100\n\
+        chunk 0 TEXT 32 ok\n\
+        \x20 text \\x00a\\x0A\\x1F ~\\x7F\\x80\\x85\\x9F\u{A0}\\x5Cx0A é\u{10FFFF}\n\
+        chunk 44 TEXT 4 ok\n\
+        \x20 text \n\
+        chunk 60 SOFH 4 ok\n\
+        \x20 value -2147483648\n\
+        chunk 76 SOFH 0 bad 11\n\
+        chunk 88 TEXT 0 bad 11\n\
+        end 5\n";
+    assert_eq!(dump(stream.bytes()), expected);
 }
 
 #[test]
@@ -152,7 +199,6 @@ fn type_numbers() {
     for (name, code) in table {
         let kind = Kind::from_code(code).expect(name);
         assert_eq!((kind.name(), kind.code()), (name, code));
-        assert_eq!(Kind::from_name(name), Some(kind));
         assert!(Kind::ALL.contains(&kind));
     }
 }

@@ -6,7 +6,7 @@ use second::list::list;
 use second::make::{make, MOST_BYTES};
 use second::utf8::{judge_strings, make_strings};
 use second::verdicts::{table, Verdicts};
-use second::{count_items, find_order, Order};
+use second::{find_order, Order, Walk};
 
 #[test]
 fn every_possible_verdict_is_met() {
@@ -73,7 +73,7 @@ fn items_share_out_the_bytes() {
             let words: Vec<&str> = line.split(' ').collect();
             let number = |i: usize| words[i].parse::<usize>().unwrap();
             match words[0] {
-                "end" => assert_eq!(number(1), count_items(order, &stream)),
+                "end" => assert_eq!(number(1), Walk::new(order, &stream).count()),
                 "chunk" => {
                     assert_eq!(number(1), place);
                     place += 12 + number(3);

@@ -115,3 +115,19 @@ fn damaged() {
         end 7\n";
     assert_eq!(list(&recording("damaged.pxgf")), expected);
 }
+
+#[test]
+fn notes() {
+    let file = recording("notes.pxgf");
+    assert_eq!(check_file(Order::Big, &file), Ok(4));
+    let text = dump(&file);
+    let lines: Vec<&str> = text.lines().filter(|line| line.starts_with("  ")).collect();
+    assert_eq!(
+        lines,
+        [
+            "  value -2",
+            "  text Zürich, 12 µW\\x09north \\x5C south\\x0D\\x0A\\x85\\x7F\\x00 東",
+            "  text ",
+        ]
+    );
+}

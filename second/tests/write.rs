@@ -6,13 +6,14 @@ use common::hex;
 use second::kind::Kind;
 use second::make::make;
 use second::order::Order;
-use second::write::{parse_record, write_record, WriteRefusal};
+use second::write::{write_record, WriteRefusal};
 use second::{find_order, Item, Reader, Verdict};
 
-fn verdict(order: Order, line: &str) -> Result<usize, u32> {
-    let (code, body) = parse_record(line).expect("a record");
+/// The size written, or the number refused with; a refused record adds
+/// nothing.
+fn verdict(order: Order, code: u32, digits: &str) -> Result<usize, u32> {
     let mut out = vec![7];
-    let answer = write_record(order, code, &body, &mut out);
+    let answer = write_record(order, code, &hex(digits), &mut out);
     let grown = out.len() - 1;
     assert_eq!(grown, answer.map_or(0, |size| 12 + size));
     answer.map_err(WriteRefusal::number)
@@ -20,25 +21,26 @@ fn verdict(order: Order, line: &str) -> Result<usize, u32> {
 
 #[test]
 fn verdicts() {
-    let big = |line| verdict(Order::Big, line);
-    assert_eq!(big("IQDC -"), Ok(0));
-    assert_eq!(big("IQDC 00000000"), Err(11));
-    assert_eq!(big("49514443 -"), Ok(0));
-    assert_eq!(big("41424344 010203"), Err(32));
-    assert_eq!(big("41424344 01020304"), Ok(4));
-    assert_eq!(big("SIQP 00000001"), Ok(4));
-    assert_eq!(big("SIQP 00000002"), Err(12));
+    let big = |kind: Kind, digits| verdict(Order::Big, kind.code(), digits);
+    assert_eq!(big(Kind::Iqdc, ""), Ok(0));
+    assert_eq!(big(Kind::Iqdc, "00000000"), Err(11));
+    assert_eq!(big(Kind::Siqp, "00000001"), Ok(4));
+    assert_eq!(big(Kind::Siqp, "00000002"), Err(12));
     // The size is judged before the kind.
-    assert_eq!(big("SIQP 000001"), Err(32));
-    assert_eq!(big("GCF_ 00000000"), Err(13));
-    assert_eq!(big("TEXT 0000000141000000"), Ok(8));
-    assert_eq!(big("TEXT 0000000141000001"), Err(14));
-    assert_eq!(big("TEXT 00000001FF000000"), Err(15));
-    assert_eq!(verdict(Order::Little, "SIQP 01000000"), Ok(4));
-    assert_eq!(verdict(Order::Little, "SIQP 00000001"), Err(12));
+    assert_eq!(big(Kind::Siqp, "000001"), Err(32));
+    assert_eq!(big(Kind::Gcf, "00000000"), Err(13));
+    assert_eq!(big(Kind::Text, "00000001 41000000"), Ok(8));
+    assert_eq!(big(Kind::Text, "00000001 41000001"), Err(14));
+    assert_eq!(big(Kind::Text, "00000001 FF000000"), Err(15));
     // No cover is asked for, and no state.
-    assert_eq!(big("GSNC 000000000000000000010002"), Ok(12));
-    assert_eq!(big("A1B2C3D4 A1B2C3D4"), Ok(4));
+    assert_eq!(big(Kind::Gsnc, "0000000000000000 00010002"), Ok(12));
+    let siqp = Kind::Siqp.code();
+    assert_eq!(verdict(Order::Little, siqp, "01000000"), Ok(4));
+    assert_eq!(verdict(Order::Little, siqp, "00000001"), Err(12));
+    // A type that no kind has.
+    assert_eq!(verdict(Order::Big, 0x4142_4344, "010203"), Err(32));
+    assert_eq!(verdict(Order::Big, 0x4142_4344, "01020304"), Ok(4));
+    assert_eq!(verdict(Order::Big, 0xA1B2_C3D4, "A1B2C3D4"), Ok(4));
 }
 
 #[test]
@@ -67,21 +69,6 @@ fn bytes_of_both_orders() {
         out,
         hex("A1B2C3D4 53495150 00000004 00000001 D4C3B2A1 43445149 00000000")
     );
-}
-
-#[test]
-fn lines_that_are_no_records() {
-    for line in [
-        "",
-        "IQDC",
-        "IQDC 0",
-        "IQDC - -",
-        "XXXX -",
-        "4951444 -",
-        "IQDC 0g",
-    ] {
-        assert_eq!(parse_record(line), None, "{line:?}");
-    }
 }
 
 /// Chunks that no body rule refuses, written again in a row, are read as the

@@ -1,9 +1,12 @@
 // Lines of the trials, and digests.
 use libc::STDOUT_FILENO;
 
-// One number more in a digest.
+// Above 2^32, so that no two numbers of 32 bits fall together, and so small that 31 times it fits into 64 bits.
+const PRIME: u64 = 288230376151711717;
+
+// One number of 32 bits more in a digest.
 pub(crate) fn more(digest: u64, x: u64) -> u64 {
-    (digest % 4294967291 * 31 + x % 4294967296) % 4294967291
+    (digest % PRIME * 31 + x % 4294967296) % PRIME
 }
 
 // A number of refusal in a digest, apart from every count and place.

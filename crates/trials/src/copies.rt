@@ -35,9 +35,29 @@ fn rooms(order: Order, s: &[u8], cursor: Cursor, channel: usize, digest: u64) ->
     widths(order, s, cursor, channel, 64, b)
 }
 
-fn widths(order: Order, s: &[u8], cursor: Cursor, channel: usize, room: usize, digest: u64) -> u64 {
-    let short = shorts(order, s, cursor, channel, room, digest);
-    patterns(order, s, cursor, channel, room, short)
+// What a copy of each width answers, and what both slices then hold.
+pub(crate) fn widths(
+    order: Order,
+    s: &[u8],
+    cursor: Cursor,
+    channel: usize,
+    room: usize,
+    digest: u64,
+) -> u64 {
+    let mut numbers = [-21846i16; 64];
+    let mut patterns = [0xAAAA_AAAAu32; 64];
+    if 64 < room {
+        return digest;
+    }
+    let a = told(
+        samples::shorts_at(order, s, cursor, channel, &mut numbers[0..room]),
+        digest,
+    );
+    let b = told(
+        samples::patterns_at(order, s, cursor, channel, &mut patterns[0..room]),
+        a,
+    );
+    held(&numbers, &patterns, b)
 }
 
 // The answer of a copy.
@@ -60,79 +80,12 @@ fn widest(x: u32) -> u64 {
     x as u64
 }
 
-// What a copy of 16-bit numbers answers, and what the whole slice then holds.
-fn shorts(order: Order, s: &[u8], cursor: Cursor, channel: usize, room: usize, digest: u64) -> u64 {
-    let mut out = [-21846i16; 64];
-    let sum = into_shorts(order, s, cursor, channel, room, &mut out, digest);
-    held_shorts(&out, sum)
-}
-
-fn into_shorts(
-    order: Order,
-    s: &[u8],
-    cursor: Cursor,
-    channel: usize,
-    room: usize,
-    out: &mut [i16],
-    digest: u64,
-) -> u64 {
-    if out.len() < room {
-        return digest;
-    }
-    told(
-        samples::shorts_at(order, s, cursor, channel, &mut out[0..room]),
-        digest,
-    )
-}
-
-fn held_shorts(out: &[i16], digest: u64) -> u64 {
+// The elements of both, in turn.
+fn held(numbers: &[i16; 64], patterns: &[u32; 64], digest: u64) -> u64 {
     let mut sum = digest;
-    let mut i = 0;
-    while i < out.len() {
-        sum = more(sum, wide(num::pattern16(out[i])));
-        i += 1;
-    }
-    sum
-}
-
-// The same of 32-bit patterns.
-fn patterns(
-    order: Order,
-    s: &[u8],
-    cursor: Cursor,
-    channel: usize,
-    room: usize,
-    digest: u64,
-) -> u64 {
-    let mut out = [0xAAAA_AAAAu32; 64];
-    let sum = into_patterns(order, s, cursor, channel, room, &mut out, digest);
-    held_patterns(&out, sum)
-}
-
-fn into_patterns(
-    order: Order,
-    s: &[u8],
-    cursor: Cursor,
-    channel: usize,
-    room: usize,
-    out: &mut [u32],
-    digest: u64,
-) -> u64 {
-    if out.len() < room {
-        return digest;
-    }
-    told(
-        samples::patterns_at(order, s, cursor, channel, &mut out[0..room]),
-        digest,
-    )
-}
-
-fn held_patterns(out: &[u32], digest: u64) -> u64 {
-    let mut sum = digest;
-    let mut i = 0;
-    while i < out.len() {
-        sum = more(sum, widest(out[i]));
-        i += 1;
+    for i in 0..64 {
+        sum = more(sum, wide(num::pattern16(numbers[i])));
+        sum = more(sum, widest(patterns[i]));
     }
     sum
 }

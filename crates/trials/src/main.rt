@@ -1,9 +1,11 @@
-// Runs each stream of the file `streams`: its dump, the file check in both orders, and digests of what copying and writing
-// answer and leave. The file has the number of streams, then for each its length and its bytes; both numbers take four
+// Runs each stream of the file `streams`: its dump, the file check in both orders, digests of what copying and writing answer
+// and leave, and of what cursors made at will are answered. The file has the number of streams, then for each its length and its bytes; both numbers take four
 // bytes, the lowest first.
 mod answer;
 mod check;
 mod copies;
+mod cursors;
+mod states;
 mod values;
 mod writes;
 
@@ -23,6 +25,7 @@ fn trial(s: &[u8]) {
     copies::both(s);
     writes::both(s);
     values::both(s);
+    cursors::both(s);
 }
 
 // The next stream into the front of buf; how many bytes came.

@@ -71,12 +71,8 @@ fn good(from: Order, to: Order, kind: Kind, bytes: &[u8], out: &mut [u8], run: R
     let place = run.place;
     match kind {
         Kind::Unknown => run,
-        Kind::SSNC | Kind::SSNR | Kind::GSNC => told(
-            shorts(from, to, kind, bytes, out, place),
-            run,
-        ),
-        Kind::SFNC | Kind::SFNR | Kind::GFNC => told(
-            patterns(from, to, kind, bytes, out, place),
+        Kind::SSNC | Kind::SSNR | Kind::GSNC | Kind::SFNC | Kind::SFNR | Kind::GFNC => told(
+            data(from, to, kind, bytes, out, place),
             run,
         ),
         Kind::GIQP | Kind::GCF | Kind::GRG => told(group(from, to, kind, bytes, out, place), run),
@@ -185,70 +181,24 @@ fn samples(bytes: &[u8]) -> &[u8] {
     &bytes[8..end]
 }
 
-fn shorts(
-    from: Order,
-    to: Order,
-    kind: Kind,
-    bytes: &[u8],
-    out: &mut [u8],
-    place: usize,
-) -> Written {
+// The samples as 16-bit numbers and as patterns, of which the kind takes one.
+fn data(from: Order, to: Order, kind: Kind, bytes: &[u8], out: &mut [u8], place: usize) -> Written {
     let mut numbers = [0i16; 512];
+    let mut patterns = [0u32; 256];
     let time = num::i64_at(from, bytes, 0);
     let n = samples(bytes).len() / 2;
-    copy::short_reals(from, 0, samples(bytes), n, &mut numbers);
-    put_shorts(to, kind, time, &numbers, n, out, place)
-}
-
-fn put_shorts(
-    to: Order,
-    kind: Kind,
-    time: i64,
-    numbers: &[i16],
-    n: usize,
-    out: &mut [u8],
-    place: usize,
-) -> Written {
-    if numbers.len() < n {
+    if 512 < n {
         return Written::BadSize;
     }
+    let m = n / 2;
+    copy::short_reals(from, 0, samples(bytes), n, &mut numbers);
+    copy::pattern_reals(from, 0, samples(bytes), m, &mut patterns);
     match kind {
         Kind::SSNC => writer::ssnc(to, time, &numbers[0..n], out, place),
         Kind::SSNR => writer::ssnr(to, time, &numbers[0..n], out, place),
-        _ => writer::gsnc(to, time, &numbers[0..n], out, place),
-    }
-}
-
-fn patterns(
-    from: Order,
-    to: Order,
-    kind: Kind,
-    bytes: &[u8],
-    out: &mut [u8],
-    place: usize,
-) -> Written {
-    let mut numbers = [0u32; 512];
-    let time = num::i64_at(from, bytes, 0);
-    let n = samples(bytes).len() / 4;
-    copy::pattern_reals(from, 0, samples(bytes), n, &mut numbers);
-    put_patterns(to, kind, time, &numbers, n, out, place)
-}
-
-fn put_patterns(
-    to: Order,
-    kind: Kind,
-    time: i64,
-    numbers: &[u32],
-    n: usize,
-    out: &mut [u8],
-    place: usize,
-) -> Written {
-    if numbers.len() < n {
-        return Written::BadSize;
-    }
-    match kind {
-        Kind::SFNC => writer::sfnc(to, time, &numbers[0..n], out, place),
-        Kind::SFNR => writer::sfnr(to, time, &numbers[0..n], out, place),
-        _ => writer::gfnc(to, time, &numbers[0..n], out, place),
+        Kind::GSNC => writer::gsnc(to, time, &numbers[0..n], out, place),
+        Kind::SFNC => writer::sfnc(to, time, &patterns[0..m], out, place),
+        Kind::SFNR => writer::sfnr(to, time, &patterns[0..m], out, place),
+        _ => writer::gfnc(to, time, &patterns[0..m], out, place),
     }
 }

@@ -1,0 +1,109 @@
+//! Steps and copies at cursors made at will.
+
+use second::compose::Composer;
+use second::cursor::{AnyState, Cursor, Held, HeldGroup};
+use second::kind::Kind;
+use second::order::Order;
+use second::{Item, Verdict};
+
+/// A rate and a chunk of two reals behind it, which begins at 20.
+fn stream() -> Vec<u8> {
+    let mut stream = Composer::new(Order::Big);
+    stream.long(Kind::Sr, 5).shorts(Kind::Ssnr, 1, &[3, -4]);
+    stream.into_bytes()
+}
+
+fn at(place: usize, in_step: bool, state: AnyState) -> Cursor {
+    Cursor {
+        place,
+        in_step,
+        state,
+    }
+}
+
+fn rated(value: i64) -> AnyState {
+    AnyState {
+        rate: Held {
+            present: true,
+            value,
+        },
+        ..AnyState::default()
+    }
+}
+
+/// The number a step is refused with, 0 if it is not. A copy is then refused
+/// with the same.
+fn number(cursor: Cursor, stream: &[u8]) -> u32 {
+    let number = cursor.step(Order::Big, stream).map_or_else(|n| n, |_| 0);
+    if number != 0 {
+        let mut out = [7];
+        let copied = cursor.copy_shorts(Order::Big, stream, 9, &mut out);
+        assert_eq!((copied, out), (Err(number), [7]));
+    }
+    number
+}
+
+#[test]
+fn past_the_end_comes_first() {
+    let stream = stream();
+    let end = stream.len();
+    for in_step in [true, false] {
+        for state in [rated(1), rated(0)] {
+            assert_eq!(number(at(end + 1, in_step, state), &stream), 2);
+            assert_eq!(number(at(usize::MAX, in_step, state), &stream), 2);
+        }
+        assert_eq!(number(at(end, in_step, rated(1)), &stream), 0);
+    }
+    assert_eq!(number(at(end, true, rated(0)), &stream), 3);
+}
+
+#[test]
+fn only_in_step_is_the_state_asked() {
+    let stream = stream();
+    assert_eq!(number(at(20, true, rated(0)), &stream), 3);
+    let searching = at(20, false, rated(0));
+    let step = searching.step(Order::Big, &stream).unwrap();
+    assert_eq!((step.place, step.in_step), (stream.len(), true));
+    // The state is emptied, so the rate is not there.
+    let Some(Item::Chunk { verdict, .. }) = step.item else {
+        panic!("a chunk stands there")
+    };
+    assert!(matches!(verdict, Verdict::Waits { time: 1, .. }));
+}
+
+#[test]
+fn a_good_state_is_used() {
+    let stream = stream();
+    let cursor = at(20, true, rated(1));
+    let mut out = [7; 3];
+    assert_eq!(cursor.copy_shorts(Order::Big, &stream, 0, &mut out), Ok(2));
+    assert_eq!(out, [3, -4, 7]);
+    let numbers = [
+        cursor.copy_shorts(Order::Big, &stream, 0, &mut out[..1]),
+        cursor.copy_shorts(Order::Big, &stream, 1, &mut out[..1]),
+        cursor.copy_patterns(Order::Big, &stream, 1, &mut []),
+        at(0, true, rated(1)).copy_shorts(Order::Big, &stream, 1, &mut []),
+        at(21, true, rated(1)).copy_shorts(Order::Big, &stream, 1, &mut []),
+    ];
+    assert_eq!(numbers, [33, 34, 35, 35, 35].map(Err));
+    // A step from inside the chunk skips what is left of it.
+    let step = at(21, true, rated(1)).step(Order::Big, &stream).unwrap();
+    assert_eq!((step.place, step.in_step), (stream.len(), false));
+}
+
+#[test]
+fn a_group_of_the_state_is_used() {
+    let mut composer = Composer::new(Order::Little);
+    composer.shorts(Kind::Gsnc, 1, &[1, 2, 3, 4]);
+    let mut state = rated(1);
+    state.group = HeldGroup {
+        n: 2,
+        iq: false,
+        increment: 1,
+        offsets: [0; 16],
+    };
+    state.group.offsets[0] = 1;
+    let mut out = [7; 3];
+    let copied = at(0, true, state).copy_shorts(Order::Little, composer.bytes(), 0, &mut out);
+    assert_eq!((copied, out), (Ok(2), [4, 3, 7]));
+}
