@@ -8,7 +8,8 @@
 //! [`samples`] copies numbers out; [`cursor`] lets both begin anywhere, with
 //! any state. On top stand [`mod@list`], [`mod@dump`], [`filecheck`] and
 //! [`write`](mod@write); [`make`](mod@make) and [`recordings`] put streams
-//! together, and [`trials`] holds what is compared.
+//! together, [`examples`] has what the example programs print, and
+//! [`trials`] holds what is compared.
 
 pub mod body;
 pub mod check;
@@ -16,6 +17,7 @@ pub mod compose;
 pub mod cover;
 pub mod cursor;
 pub mod dump;
+pub mod examples;
 pub mod filecheck;
 pub mod frame;
 pub mod kind;

@@ -9,10 +9,13 @@ use std::process::ExitCode;
 use second::list::MOST_BYTES;
 use second::trials::Met;
 use second::verdicts::{Pair, Verdicts};
-use second::{dump, list, make, pack, recordings, trials, utf8};
+use second::{dump, examples, list, make, pack, recordings, trials, utf8};
 
 const USAGE: &str = "usage: second list FILE
        second dump FILE
+       second first FILE
+       second records
+       second peaks FILE
        second make SEED
        second verdicts FILE...
        second samples DIR
@@ -40,6 +43,9 @@ fn run(words: &[&str]) -> Result<ExitCode, String> {
     match words {
         ["list", file] => print(list::list(&read_for_listing(file)?).as_bytes()),
         ["dump", file] => print(dump::dump(&read_for_listing(file)?).as_bytes()),
+        ["first", file] => print(examples::first(&read_for_listing(file)?).as_bytes()),
+        ["records"] => print(examples::records().as_bytes()),
+        ["peaks", file] => print(examples::peaks(&read_for_listing(file)?).as_bytes()),
         ["make", seed] => print(&make::make(parse_number(seed)?)),
         ["verdicts", files @ ..] if !files.is_empty() => count_verdicts(files),
         ["samples", dir] => write_samples(Path::new(dir)),

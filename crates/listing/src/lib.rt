@@ -15,6 +15,10 @@ pub use lines::long_line;
 pub use lines::none_line;
 pub use string::Text;
 pub use string::word;
+pub use words::decimal;
+pub use words::hex_word;
+pub use words::newline;
+pub use words::number;
 
 // What a line of the dump is about.
 pub enum Label {

@@ -5,7 +5,7 @@ use body::Number;
 use body::TextRead;
 use effect::Verdict;
 use listing::Label;
-use listing::words::decimal;
+use listing::decimal;
 use num::Order;
 use reader::Cursor;
 use reader::Item;

@@ -22,8 +22,8 @@ fn write(s: &[u8], n: usize) {
     }
 }
 
-// The bytes of a text.
-fn print(t: Text) {
+// Writes a text to standard output.
+pub fn print(t: Text) {
     let bytes = t.bytes;
     write(&bytes, t.len);
 }

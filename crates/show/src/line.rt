@@ -1,8 +1,8 @@
 // A line of the dump, gathered before it is written.
 use listing::Label;
 use listing::Text;
+use listing::newline;
 use listing::words::label;
-use listing::words::newline;
 
 // The first len bytes are gathered. A long line is written in parts.
 pub(crate) struct Line {

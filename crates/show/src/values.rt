@@ -8,9 +8,9 @@ use body::Held;
 use body::LevelHeld;
 use listing::Label;
 use listing::Text;
-use listing::words::decimal;
-use listing::words::hex_word;
-use listing::words::number;
+use listing::decimal;
+use listing::hex_word;
+use listing::number;
 use state::State;
 
 // The start mark, then each value, in the order of the kinds.

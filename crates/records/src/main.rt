@@ -1,0 +1,34 @@
+// Records written one after the other into a slice, and read back from it.
+use num::Order;
+use show::print;
+use writer::Written;
+
+fn main() {
+    let mut out = [0u8; 256];
+    let end = records(Order::Big, &mut out);
+    if end <= 256 {
+        show::stream(&out[..end], true);
+    }
+}
+
+// Four records, each at the place that the call before it gave.
+fn records(order: Order, out: &mut [u8]) -> usize {
+    let a = next(typed::siqp(order, 1, out, 0), 0);
+    let b = next(typed::sr(order, 48_000_000_000, out, a), a);
+    let c = next(typed::cf(order, 98_500_000_000_000, out, b), b);
+    let pairs = [1000, -1000, 2000, -2000];
+    next(
+        writer::ssnc(order, 1_700_000_000_000_000_000, &pairs, out, c),
+        c,
+    )
+}
+
+// Where the next record goes. A refused call has written nothing: it says why, and the place is as it was.
+fn next(written: Written, place: usize) -> usize {
+    if let Written::Next(to) = written {
+        return to;
+    }
+    print(answers::written(written));
+    print(listing::newline());
+    place
+}
