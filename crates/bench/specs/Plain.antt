@@ -21,11 +21,6 @@ abbrev pub orZero : Answer ℕ → ℕ
 orZero (gives n) = n
 orZero (refuses k) = 0
 
--- the number of a refusal, 0 where something is given
-abbrev pub refusal : {A : Type 0} → Answer A → ℕ
-refusal (gives a) = 0
-refusal (refuses k) = k
-
 -- where a search stopped, or the end
 abbrev pub placeOr : ℕ → Found → ℕ
 placeOr stop (Place p) = p

@@ -3,6 +3,7 @@ ghost use mathlib.Core.Path.{_≡_};
 ghost use mathlib.Core.Bool.{true, false};
 ghost use Prim.Native.Nat.{_≤_};
 ghost use lib.ListN.{length};
+ghost use Rattle.num.specs.Answer.{refusal};
 ghost use Rattle.body.specs.Plain.{text};
 ghost use Rattle.effect.specs.Says.{verdictSaid};
 ghost use Rattle.copy.specs.Samples.{shortAt, patternAt};
@@ -12,7 +13,7 @@ ghost use Rattle.reader.specs.Items.{items};
 ghost use Rattle.reader.specs.Step.{newCursor, after};
 ghost use Rattle.samples.specs.Copy.{copiedSaid, layoutAt, countOf, samplesAt, filled};
 ghost use Rattle.writer.specs.Write.{writeOf, writtenOut, writtenSaid};
-ghost use Rattle.bench.specs.Plain.{orderBy, orZero, refusal, placeOr, sound, soundCount};
+ghost use Rattle.bench.specs.Plain.{orderBy, orZero, placeOr, sound, soundCount};
 ghost use Rattle.bench.specs.Inner.Sound.{soundIn};
 use body::TextRead;
 use effect::Verdict;
@@ -124,7 +125,7 @@ pub extern "C" fn bench_text(order: u32, body: &[u8]) -> u32
 {
     match body::text(order_by(order), body) {
         TextRead::Is(_) => 0,
-        TextRead::Malformed(f) => body::number_of(f),
+        TextRead::Malformed(f) => f.number(),
     }
 }
 

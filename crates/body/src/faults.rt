@@ -15,21 +15,23 @@ pub enum Fault {
     Text,
 }
 
+impl Fault {
+    // The number of the fault, 11 to 15.
+    pub fn number(self) -> u32
+        ensures { λ r. ⌜ r ≡ faultNumber self ⌝ }
+    {
+        match self {
+            Fault::Size => 11,
+            Fault::Value => 12,
+            Fault::Count => 13,
+            Fault::Padding => 14,
+            Fault::Text => 15,
+        }
+    }
+}
+
 // A verdict on a body.
 pub enum Checked {
     Good,
     Malformed(Fault),
-}
-
-// The number of a fault.
-pub fn number_of(fault: Fault) -> u32
-    ensures { λ r. ⌜ r ≡ faultNumber fault ⌝ }
-{
-    match fault {
-        Fault::Size => 11,
-        Fault::Value => 12,
-        Fault::Count => 13,
-        Fault::Padding => 14,
-        Fault::Text => 15,
-    }
 }

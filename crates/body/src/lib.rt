@@ -11,7 +11,6 @@ pub mod verdict;
 
 pub use faults::Checked;
 pub use faults::Fault;
-pub use faults::number_of;
 pub use groups::GroupGains;
 pub use groups::GroupGainsRead;
 pub use groups::GroupHertz;
@@ -25,7 +24,9 @@ pub use groups::no_gains;
 pub use groups::no_hertz;
 pub use groups::no_packing;
 pub use kinds::Kind;
+pub use kinds::code_of;
 pub use kinds::kind_of;
+pub use kinds::letters_of;
 pub use levels::Level;
 pub use levels::LevelRead;
 pub use levels::dbfs;

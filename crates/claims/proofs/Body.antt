@@ -12,14 +12,16 @@ use Rattle.body.proofs.values.no_number.Reads as no_number
 use Rattle.body.proofs.values.no_band.Reads as no_band
 use Rattle.body.proofs.values.no_level.Reads as no_level
 use Rattle.body.proofs.sampled.shape_of.Reads as shape_of
-use Rattle.body.proofs.faults.number_of.Reads as number_of
+use Rattle.body.proofs.faults.Fault.number.Reads as number
 use Rattle.body.proofs.groups.gcf.Reads as gcf
 use Rattle.body.proofs.groups.giqp.Reads as giqp
 use Rattle.body.proofs.groups.grg.Reads as grg
 use Rattle.body.proofs.groups.no_gains.Reads as no_gains
 use Rattle.body.proofs.groups.no_hertz.Reads as no_hertz
 use Rattle.body.proofs.groups.no_packing.Reads as no_packing
+use Rattle.body.proofs.kinds.code_of.Reads as code_of
 use Rattle.body.proofs.kinds.kind_of.Reads as kind_of
+use Rattle.body.proofs.kinds.letters_of.Reads as letters_of
 use Rattle.body.proofs.levels.dbfs.Reads as dbfs
 use Rattle.body.proofs.levels.dbtg.Reads as dbtg
 use Rattle.body.proofs.levels.ffs.Reads as ffs
@@ -34,11 +36,17 @@ use Rattle.body.proofs.plain.empty.Reads as empty
 use Rattle.body.proofs.plain.text.Reads as text
 use Rattle.body.proofs.verdict.check.Reads as check
 
-pub number-of-one-answer : OneAnswer number_of.Post
-number-of-one-answer κs a r r′ s s′ p q = p ∙ sym q
+pub fault-number-one-answer : OneAnswer number.Post
+fault-number-one-answer κs a r r′ s s′ p q = p ∙ sym q
 
 pub kind-of-one-answer : OneAnswer kind_of.Post
 kind-of-one-answer κs a r r′ s s′ p q = p ∙ sym q
+
+pub code-of-one-answer : OneAnswer code_of.Post
+code-of-one-answer κs a r r′ s s′ p q = p ∙ sym q
+
+pub letters-of-one-answer : OneAnswer letters_of.Post
+letters-of-one-answer κs a r r′ s s′ p q = p ∙ sym q
 
 pub no-packing-one-answer : OneAnswer no_packing.Post
 no-packing-one-answer κs a r r′ s s′ p q = p ∙ sym q

@@ -7,6 +7,7 @@ use Rattle.frame.proofs.good_size.Reads as good_size
 use Rattle.frame.proofs.look.Reads as look
 use Rattle.frame.proofs.search.Reads as search
 use Rattle.claims.proofs.Promise.{OneAnswer}
+use Rattle.frame.proofs.OrderFound.number.Reads as number
 
 pub good-size-one-answer : OneAnswer good_size.Post
 good-size-one-answer κs a r r′ s s′ p q = p ∙ sym q
@@ -22,3 +23,6 @@ find-order-one-answer κs a r r′ s s′ p q = order-told r r′ (p ∙ sym q)
 
 pub ahead-of-one-answer : OneAnswer ahead_of.Post
 ahead-of-one-answer κs a r r′ s s′ p q = p ∙ sym q
+
+pub order-number-one-answer : OneAnswer number.Post
+order-number-one-answer κs a r r′ s s′ p q = p ∙ sym q

@@ -14,6 +14,7 @@ pub mod Copy
 pub mod Samples
 pub mod Filecheck
 pub mod Listing
+pub mod Answers
 pub mod Typed
 pub mod Marked
 pub mod Empty

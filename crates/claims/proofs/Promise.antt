@@ -13,6 +13,11 @@ abbrev pub OneEnd : {K B : Type 0} {A R S : K → Type 0} → ((κs : K) → A �
 OneEnd {K} {B} {A} {R} {S} Post out =
     (κs : K) (a : A κs) (r r′ : R κs) (s s′ : S κs) → Post κs a r s → Post κs a r′ s′ → (r ≡ r′) × (out κs s ≡ out κs s′)
 
+-- the same of an answer that is a part of a slice: two answers hold the same bytes
+abbrev pub OnePart : {K X : Type 0} {A S : K → Type 0} → ((κs : K) → A κs → RefT (List X) → S κs → Type 0) → Type 0
+OnePart {K} {X} {A} {S} Post =
+    (κs : K) (a : A κs) (r r′ : RefT (List X)) (s s′ : S κs) → Post κs a r s → Post κs a r′ s′ → r .now ≡ r′ .now
+
 -- an answer whose meaning a rule gives and tells apart, beside a slice that a rule fills
 pub by-meaning : {R B D : Type 0} {said : R → B} {m : B} {d d′ e : D} → ((x y : R) → said x ≡ said y → x ≡ y) → (r r′ : R) →
     (said r ≡ m) × (d ≡ e) → (said r′ ≡ m) × (d′ ≡ e) → (r ≡ r′) × (d ≡ d′)

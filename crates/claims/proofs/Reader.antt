@@ -5,8 +5,10 @@ use Rattle.reader.proofs.Cursor.lose_step.Reads as lose_step
 use Rattle.reader.proofs.Cursor.new.Reads as new
 use Rattle.reader.proofs.Cursor.step.Reads as step
 use Rattle.reader.proofs.count.Reads as count
-use Rattle.claims.proofs.Promise.{OneAnswer}
+use Rattle.claims.proofs.Promise.{OneAnswer, OnePart}
 use Rattle.claims.proofs.Told.{item-told}
+use Rattle.reader.proofs.Item.number.Reads as number
+use Rattle.reader.proofs.part.body_of.Reads as body_of
 
 pub new-one-answer : OneAnswer new.Post
 new-one-answer κs a r r′ s s′ p q = p ∙ sym q
@@ -27,3 +29,9 @@ step-one-answer κs a r r′ s s′ p q =
 
 pub count-one-answer : OneAnswer count.Post
 count-one-answer κs a r r′ s s′ p q = p ∙ sym q
+
+pub item-number-one-answer : OneAnswer number.Post
+item-number-one-answer κs a r r′ s s′ p q = p ∙ sym q
+
+pub body-of-one-answer : OnePart body_of.Post
+body-of-one-answer κs a r r′ s s′ p q = p ∙ sym q

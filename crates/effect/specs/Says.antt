@@ -21,6 +21,14 @@ pub data Says : Type 0 where
   -- data that is ready, with its time and the count of its samples
   ready : Data → Says
 
+-- the number of what is said, 0 where nothing is wrong or lacking
+abbrev pub saysNumber : Says → ℕ
+saysNumber ok = 0
+saysNumber unknown = 0
+saysNumber (bad n) = n
+saysNumber (waits n t) = n
+saysNumber (ready d) = 0
+
 -- the number of each lack
 abbrev pub lackNumber : Lack → ℕ
 lackNumber Packing = 21

@@ -6,9 +6,11 @@ mod value;
 
 pub use ask::Asked;
 pub use ask::ready_data;
+pub use effects::take;
+ghost use mathlib.Core.Path.{_≡_};
+ghost use Rattle.effect.specs.Says.{lackNumber, verdictSaid, saysNumber};
 use body::Data;
 use body::Fault;
-pub use effects::take;
 use state::State;
 
 // What a well-formed data chunk lacks.
@@ -19,6 +21,19 @@ pub enum Lack {
     Rate,
     // FFS_: number 23.
     Scale,
+}
+
+impl Lack {
+    // The number of the lack, 21 to 23.
+    pub fn number(self) -> u32
+        ensures { λ r. ⌜ r ≡ lackNumber self ⌝ }
+    {
+        match self {
+            Lack::Packing => 21,
+            Lack::Rate => 22,
+            Lack::Scale => 23,
+        }
+    }
 }
 
 // What the reader says of a chunk that it accepts.
@@ -34,6 +49,23 @@ pub enum Verdict {
     Waits(Lack, i64),
     // Data that is ready.
     Ready(Data),
+}
+
+impl Verdict {
+    // The number of what is wrong, 11 to 16, or of what is lacking, 21 to 23; 0 for a chunk that is well-formed, unknown or
+    // ready.
+    pub fn number(self) -> u32
+        ensures { λ r. ⌜ r ≡ saysNumber (verdictSaid self) ⌝ }
+    {
+        match self {
+            Verdict::Good => 0,
+            Verdict::Unknown => 0,
+            Verdict::Malformed(fault) => fault.number(),
+            Verdict::NotCovered => 16,
+            Verdict::Waits(lack, _) => lack.number(),
+            Verdict::Ready(_) => 0,
+        }
+    }
 }
 
 // The verdict; the state that a ready chunk shows, empty where nothing is shown; the state afterwards.

@@ -35,6 +35,11 @@ fileSaid (HeaderNotEnded place) = refused 42 place
 fileSaid (SecondHeader place) = refused 43 place
 fileSaid (NotAChunk place) = refused 44 place
 
+-- the number of a refusal, 0 for a good file
+abbrev pub fileNumber : FileAnswer → ℕ
+fileNumber (good items) = 0
+fileNumber (refused number place) = number
+
 -- the part that a kind has in a file: data, a header (SOFH), a header's end (EOFH), or another
 abbrev pub partBy : Shaped → ℕ → Part
 partBy (Samples shape) code = Data

@@ -3,7 +3,7 @@ ghost use mathlib.Core.Path.{_≡_};
 ghost use Prim.Native.Nat.{_<_, _≤_};
 ghost use lib.ListN.{length};
 ghost use Rattle.body.specs.Verdict.{verdict};
-ghost use Rattle.filecheck.specs.File.{fileSaid, partOf, isGood, fileAhead, fileOf};
+ghost use Rattle.filecheck.specs.File.{fileSaid, fileNumber, partOf, isGood, fileAhead, fileOf};
 ghost use Rattle.filecheck.specs.Inner.Turn.{turnSaid, forward, Turned};
 use body::Checked;
 use body::Kind;
@@ -22,6 +22,21 @@ pub enum FileChecked {
     SecondHeader(usize),
     // A skipped or unfinished item stands at this place. Number 44.
     NotAChunk(usize),
+}
+
+impl FileChecked {
+    // The number of the refusal, 41 to 44; 0 for a good file.
+    pub fn number(self) -> u32
+        ensures { λ r. ⌜ r ≡ fileNumber (fileSaid self) ⌝ }
+    {
+        match self {
+            FileChecked::Good(_) => 0,
+            FileChecked::NoHeader => 41,
+            FileChecked::HeaderNotEnded(_) => 42,
+            FileChecked::SecondHeader(_) => 43,
+            FileChecked::NotAChunk(_) => 44,
+        }
+    }
 }
 
 // The part that a chunk has in a file. SOFH is a header, EOFH a header's end.

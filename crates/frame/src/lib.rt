@@ -4,6 +4,7 @@ ghost use mathlib.Core.Bool.{true};
 ghost use Prim.Native.Nat.{_+_, _^_, _≤_, _<_};
 ghost use lib.Dec.{eqb};
 ghost use lib.ListN.{length, drop};
+ghost use Rattle.num.specs.Answer.{refusal};
 ghost use Rattle.num.specs.Choice.{pick};
 ghost use Rattle.frame.specs.Ahead.{aheadOf};
 ghost use Rattle.frame.specs.Inner.Free.{Free};
@@ -53,7 +54,20 @@ pub enum Found {
 // The order of a stream, or that neither sync word stands in it.
 pub enum OrderFound {
     Is(Order),
+    // Number 1.
     Neither,
+}
+
+impl OrderFound {
+    // The number of the refusal: 1 where neither sync word stands, 0 where an order was found.
+    pub fn number(self) -> u32
+        ensures { λ r. ⌜ r ≡ refusal (orderSaid self) ⌝ }
+    {
+        match self {
+            OrderFound::Is(_) => 0,
+            OrderFound::Neither => 1,
+        }
+    }
 }
 
 // Whether a body may have this many bytes.

@@ -1,8 +1,9 @@
 // The line of a chunk.
 ghost use mathlib.Core.Path.{_≡_};
 ghost use Rattle.num.specs.Number.{bytesOf};
+ghost use Rattle.num.specs.declared.Order.the-variants.{Big};
 ghost use Rattle.body.specs.Kind.{kindOf};
-ghost use Rattle.effect.specs.Says.{verdictSaid, lackNumber};
+ghost use Rattle.effect.specs.Says.{verdictSaid};
 ghost use Rattle.listing.specs.Text.{textOf};
 ghost use Rattle.listing.specs.Words.{spaced};
 ghost use Rattle.listing.specs.Lines.{nameBy, verdictWord, chunkLine};
@@ -14,9 +15,7 @@ use crate::words::newline;
 use crate::words::number;
 use crate::words::numbered;
 use body::Kind;
-use effect::Lack;
 use effect::Verdict;
-use num::Order;
 
 // The place, name, size and verdict.
 pub(crate) fn chunk(place: usize, code: u32, size: usize, verdict: Verdict) -> Text
@@ -38,9 +37,9 @@ fn name(code: u32) -> Text
 
 // The four letters, the first the most significant byte.
 fn letters(code: u32) -> Text
-    ensures { λ r. ⌜ r ≡ textOf (spaced (bytesOf Order.Big 4 code)) ⌝ }
+    ensures { λ r. ⌜ r ≡ textOf (spaced (bytesOf Big 4 code)) ⌝ }
 {
-    let bytes = num::u32_bytes(Order::Big, code);
+    let bytes = body::letters_of(code);
     joined(word(b" "), word(&bytes))
 }
 
@@ -51,19 +50,8 @@ fn judged(verdict: Verdict) -> Text
     match verdict {
         Verdict::Good | Verdict::Ready(_) => word(b" ok"),
         Verdict::Unknown => word(b" unknown"),
-        Verdict::Malformed(fault) => numbered(b" bad", body::number_of(fault) as usize),
+        Verdict::Malformed(fault) => numbered(b" bad", fault.number() as usize),
         Verdict::NotCovered => numbered(b" bad", 16),
-        Verdict::Waits(lack, _) => numbered(b" wait", number_of(lack)),
-    }
-}
-
-// The number of a lack.
-fn number_of(lack: Lack) -> usize
-    ensures { λ r. ⌜ r ≡ lackNumber lack ⌝ }
-{
-    match lack {
-        Lack::Packing => 21,
-        Lack::Rate => 22,
-        Lack::Scale => 23,
+        Verdict::Waits(lack, _) => numbered(b" wait", lack.number() as usize),
     }
 }

@@ -2,7 +2,7 @@
 use Prim.Native.Nat.{ℕ}
 use mathlib.Core.Bool.{Bool, true, false}
 use Rattle.num.specs.Answer.{Answer, gives, refuses}
-use Rattle.effect.specs.Says.{Says, verdictSaid}
+use Rattle.effect.specs.Says.{Says, saysNumber, verdictSaid}
 use Rattle.reader.specs.declared.Item.the-variants.{PastEnd, BadState, End, Skipped, Unfinished, Chunk}
 use Rattle.reader.specs.declared.Item as declared
 
@@ -48,3 +48,8 @@ itemSaid End = gives end
 itemSaid (Skipped place length) = gives (skipped place length)
 itemSaid (Unfinished place length) = gives (unfinished place length)
 itemSaid (Chunk place code size v) = gives (chunk place code size (verdictSaid v))
+
+-- the number of a refusal, or of what is said of a chunk; 0 for every other item
+abbrev pub itemNumber : Answer Item → ℕ
+itemNumber (refuses n) = n
+itemNumber (gives i) = ofChunk 0 (λ place code size says. saysNumber says) i

@@ -1,4 +1,5 @@
 pub mod Item
 pub mod Step
 pub mod Items
+pub mod Part
 pub mod IsStep

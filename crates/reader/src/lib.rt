@@ -1,4 +1,7 @@
 // The reader: a cursor that goes through a lent stream, one item at a step.
+pub mod part;
+
+pub use part::body_of;
 ghost use mathlib.Core.Bool.{true};
 ghost use mathlib.Core.Path.{_≡_};
 ghost use Prim.Native.Nat.{_+_, _-_, _^_, _<_, _≤_};
@@ -9,6 +12,7 @@ ghost use Rattle.effect.specs.Ready.{noState};
 ghost use Rattle.frame.specs.Frames.{width, first};
 ghost use Rattle.frame.specs.Place.{headerSize, gap};
 ghost use Rattle.state.specs.State.{withMark};
+ghost use Rattle.reader.specs.Item.{itemSaid, itemNumber};
 ghost use Rattle.reader.specs.Items.{items};
 ghost use Rattle.reader.specs.IsStep.{IsStep};
 ghost use Rattle.reader.specs.Step.{newCursor, before, accepted, lost, accepts, cuts, skips, stepOf};
@@ -47,6 +51,33 @@ pub enum Item {
         size: usize,
         verdict: Verdict,
     },
+}
+
+impl Item {
+    // The number of the refusal, 2 or 3; of a chunk the number of its verdict; 0 for every other item.
+    pub fn number(self) -> u32
+        ensures { λ r. ⌜ r ≡ itemNumber (itemSaid self) ⌝ }
+    {
+        match self {
+            Item::PastEnd => 2,
+            Item::BadState => 3,
+            Item::End => 0,
+            Item::Skipped {
+                place: _,
+                length: _,
+            } => 0,
+            Item::Unfinished {
+                place: _,
+                length: _,
+            } => 0,
+            Item::Chunk {
+                place: _,
+                code: _,
+                size: _,
+                verdict,
+            } => verdict.number(),
+        }
+    }
 }
 
 // The item; the state that a ready chunk shows, empty where nothing is shown; the cursor moved on.

@@ -7,6 +7,7 @@ use lib.ListN.{take, drop}
 use Rattle.num.specs.Answer.{Answer, gives, refuses, then}
 use Rattle.num.specs.Choice.{pick}
 use Rattle.num.specs.declared.Order.{Order}
+use Rattle.frame.specs.Place.{frontSize}
 use Rattle.body.specs.Kind.{kindOf}
 use Rattle.body.specs.Table.{shaped}
 use Rattle.copy.specs.Samples.{frontFilled}
@@ -57,7 +58,7 @@ countOf float o s c channel room = then (layoutAt float o s c channel) (countWit
 -- the sample bytes of the chunk that a step would give: after its header and its time, up to its end
 abbrev pub samplesBy : Answer Item → List ℕ → List ℕ
 samplesBy (refuses n) l = []
-samplesBy (gives i) l = ofChunk [] (λ place code size says. take (size - 8) (drop 20 l)) i
+samplesBy (gives i) l = ofChunk [] (λ place code size says. take (size - 8) (drop frontSize l)) i
 
 abbrev pub samplesAt : Order → List ℕ → Cursor → List ℕ
 samplesAt o s c = samplesBy (stepOf o s c .item) (drop (c .place) s)

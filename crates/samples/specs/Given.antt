@@ -9,6 +9,7 @@ use Rattle.num.specs.Answer.{Answer, gives, refuses, then}
 use Rattle.num.specs.Choice.{pick, both}
 use Rattle.num.specs.declared.Order.{Order}
 use Rattle.frame.specs.Ahead.{aheadOf}
+use Rattle.frame.specs.Place.{headerSize}
 use Rattle.frame.specs.declared.Ahead.{Ahead}
 use Rattle.frame.specs.declared.Ahead.the-variants.{End, Stretch, Cut, Chunk}
 use Rattle.body.specs.Kind.{kindOf}
@@ -49,7 +50,7 @@ isThat code size (Chunk k n) = both (eqb k code) (eqb n size)
 -- samples that the item tells of
 abbrev pub isThere : Order → List ℕ → State → ℕ → ℕ → Says → Bool
 isThere o l shown code size says =
-    both (isThat code size (aheadOf o l)) (bothGive (readyData (effect o (kindOf code) (take size (drop 12 l)) shown .says)) (readyData says))
+    both (isThat code size (aheadOf o l)) (bothGive (readyData (effect o (kindOf code) (take size (drop headerSize l)) shown .says)) (readyData says))
 
 -- where the channel's numbers lie in it: number 35 unless it is there and of the width, then 34
 abbrev pub layoutThere : Bool → Order → List ℕ → ℕ → State → Answer Item → Answer Layout

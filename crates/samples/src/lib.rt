@@ -1,5 +1,6 @@
 // Samples: the numbers of one channel, copied out of a ready data chunk: the one at a cursor, or the one that a step gave. Here
 // stands where they lie.
+mod answer;
 mod given;
 pub mod patterns;
 pub mod shorts;
@@ -12,6 +13,7 @@ ghost use mathlib.Core.Path.{_≡_};
 ghost use Prim.Native.Nat.{_+_, _^_, _≤_, _<_};
 ghost use lib.ListN.{length, take, drop, getD};
 ghost use Rattle.samples.specs.Layout.{hasWidth, alone, paired, real, oneOf, arranged, layout};
+ghost use Rattle.frame.specs.Place.{headerSize};
 ghost use Rattle.body.specs.Table.{shaped};
 ghost use Rattle.effect.specs.Effect.{effect};
 ghost use Rattle.effect.specs.Ready.{readyData, askedSaid};
@@ -173,10 +175,10 @@ fn layout_in(float: bool, shaped: Shaped, channel: usize, shown: State, d: Data)
 
 // The data of the complete chunk of a kind and a size at a place, where it is ready with this state.
 fn data_at(order: Order, s: &[u8], at: usize, kind: Kind, size: usize, state: State) -> Asked
-    requires { ⌜ at + 12 + size ≤ length (now s) ⌝ }
-    ensures { λ r. ⌜ askedSaid r ≡ readyData (effect order kind (take size (drop 12 (drop at (now (s .entry))))) state .says) ⌝ }
+    requires { ⌜ at + headerSize + size ≤ length (now s) ⌝ }
+    ensures { λ r. ⌜ askedSaid r ≡ readyData (effect order kind (take size (drop headerSize (drop at (now (s .entry))))) state .says) ⌝ }
 {
-    let from = at + 12;
+    let from = at + frame::HEADER;
     let to = from + size;
     effect::ready_data(order, kind, &s[from..to], state)
 }
@@ -191,11 +193,15 @@ fn plan_in(
     at: usize,
     size: usize,
 ) -> Planned
-    requires { ⌜ (8 ≤ size) × (at + 12 + size < 2 ^ 64) ⌝ }
+    requires { ⌜ (8 ≤ size) × (at + headerSize + size < 2 ^ 64) ⌝ }
     ensures { λ r. ⌜ Plans (layout float (shaped kind) channel state d) at size r ⌝ }
 {
     match layout_in(float, body::shape_of(kind), channel, state, d) {
-        LayoutFound::At(layout) => Planned::Go(layout, at + 20, at + 12 + size),
+        LayoutFound::At(layout) => Planned::Go(
+            layout,
+            at + frame::FRONT,
+            at + frame::HEADER + size,
+        ),
         LayoutFound::NoChannel => Planned::Refused(Copied::NoChannel),
         LayoutFound::NotReady => Planned::Refused(Copied::NotReady),
     }

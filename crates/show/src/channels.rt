@@ -10,9 +10,8 @@ use listing::decimal;
 use listing::hex_word;
 use listing::number;
 use num::Order;
-use reader::Cursor;
+use reader::Stepped;
 use samples::Copied;
-use state::State;
 
 // As many numbers of a channel as a stream of the most bytes can hold.
 fn short_room() -> [i16; 32768]
@@ -27,11 +26,11 @@ fn pattern_room() -> [u32; 16384]
     [0; 16384]
 }
 
-// The samples of the ready chunk at the cursor, which shows this state.
-pub(crate) fn each(order: Order, s: &[u8], cursor: Cursor, code: u32, state: State) {
+// The samples of the ready chunk that a step gave.
+pub(crate) fn each(order: Order, s: &[u8], stepped: Stepped, code: u32) {
     if let Shaped::Samples(shape) = body::shape_of(body::kind_of(code)) {
-        let group = state.values.group;
-        lines(order, s, cursor, channels(shape, group.n), is_float(shape));
+        let group = stepped.shown.values.group;
+        lines(order, s, stepped, channels(shape, group.n), is_float(shape));
     }
 }
 
@@ -51,12 +50,12 @@ fn is_float(shape: Shape) -> bool {
 }
 
 // A line for each channel: its number, the count of its numbers, and these.
-fn lines(order: Order, s: &[u8], cursor: Cursor, channels: usize, float: bool) {
+fn lines(order: Order, s: &[u8], stepped: Stepped, channels: usize, float: bool) {
     for c in 0..channels {
         if float {
-            patterns(order, s, cursor, c);
+            patterns(order, s, stepped, c);
         } else {
-            shorts(order, s, cursor, c);
+            shorts(order, s, stepped, c);
         }
     }
 }
@@ -72,9 +71,9 @@ fn head(channel: usize, count: usize) -> Line {
 }
 
 // 16-bit numbers, in decimal.
-fn shorts(order: Order, s: &[u8], cursor: Cursor, channel: usize) {
+fn shorts(order: Order, s: &[u8], stepped: Stepped, channel: usize) {
     let mut out = short_room();
-    if let Copied::Count(n) = samples::shorts_at(order, s, cursor, channel, &mut out) {
+    if let Copied::Count(n) = samples::shorts_of(order, s, stepped, channel, &mut out) {
         let mut line = head(channel, n);
         for i in 0..n {
             if i < 32768 {
@@ -86,9 +85,9 @@ fn shorts(order: Order, s: &[u8], cursor: Cursor, channel: usize) {
 }
 
 // 32-bit patterns of floats.
-fn patterns(order: Order, s: &[u8], cursor: Cursor, channel: usize) {
+fn patterns(order: Order, s: &[u8], stepped: Stepped, channel: usize) {
     let mut out = pattern_room();
-    if let Copied::Count(n) = samples::patterns_at(order, s, cursor, channel, &mut out) {
+    if let Copied::Count(n) = samples::patterns_of(order, s, stepped, channel, &mut out) {
         let mut line = head(channel, n);
         for i in 0..n {
             if i < 16384 {

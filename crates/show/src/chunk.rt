@@ -1,32 +1,33 @@
 // The lines of a dump under a chunk's line.
 use crate::line::start;
 use body::Kind;
-use body::Number;
+use body::NumberRead;
 use body::TextRead;
 use effect::Verdict;
 use listing::Label;
 use listing::decimal;
 use num::Order;
-use reader::Cursor;
 use reader::Item;
-use state::State;
+use reader::Stepped;
 
-// What the item at the cursor shows: data that waits or is ready, a text, and the number of a file's header.
-pub(crate) fn shown(order: Order, s: &[u8], cursor: Cursor, item: Item, state: State) {
+// What the item of a step shows: data that waits or is ready, a text, and the number of a file's header.
+pub(crate) fn shown(order: Order, s: &[u8], stepped: Stepped) {
+    let item = stepped.item;
     if let Item::Chunk {
-        place,
+        place: _,
         code,
-        size,
+        size: _,
         verdict,
     } = item {
         match verdict {
             Verdict::Waits(_, time) => time_line(time),
             Verdict::Ready(data) => {
                 time_line(data.time);
-                crate::values::all(state);
-                crate::channels::each(order, s, cursor, code, state);
+                let shown = stepped.shown;
+                crate::values::all(shown);
+                crate::channels::each(order, s, stepped, code);
             }
-            Verdict::Good => framed(order, s, place, code, size),
+            Verdict::Good => plain(order, code, reader::body_of(s, item)),
             Verdict::Unknown | Verdict::Malformed(_) | Verdict::NotCovered => {}
         }
     }
@@ -37,20 +38,7 @@ fn time_line(time: i64) {
     start(Label::Time).with(decimal(time)).end();
 }
 
-// A well-formed chunk without samples, by its frame: every frame that a step gives lies in s.
-fn framed(order: Order, s: &[u8], place: usize, code: u32, size: usize) {
-    if place <= s.len() {
-        let left = s.len() - place;
-        if 12 <= left {
-            if size <= left - 12 {
-                let from = place + 12;
-                let to = from + size;
-                plain(order, code, &s[from..to]);
-            }
-        }
-    }
-}
-
+// A well-formed chunk without samples: a text, or the number of a file's header.
 fn plain(order: Order, code: u32, body: &[u8]) {
     match body::kind_of(code) {
         Kind::TEXT => {
@@ -59,7 +47,7 @@ fn plain(order: Order, code: u32, body: &[u8]) {
             }
         }
         Kind::SOFH => {
-            if let Number::Is(value) = body::sofh(order, body) {
+            if let NumberRead::Is(value) = body::sofh(order, body) {
                 start(Label::Value).with(decimal(value)).end();
             }
         }

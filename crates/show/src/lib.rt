@@ -50,8 +50,7 @@ fn ordered(order: Order, s: &[u8], dump: bool) {
         let item = stepped.item;
         print(listing::item_line(item));
         if dump {
-            let shown = stepped.shown;
-            chunk::shown(order, s, cursor, item, shown);
+            chunk::shown(order, s, stepped);
         }
         let next = stepped.cursor;
         cursor = next;

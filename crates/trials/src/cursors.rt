@@ -2,7 +2,6 @@
 // that are not.
 use crate::answer::more;
 use crate::answer::refused;
-use effect::Lack;
 use effect::Verdict;
 use num::Order;
 use reader::Cursor;
@@ -84,16 +83,8 @@ fn number(verdict: Verdict) -> u64 {
         Verdict::Good => 0,
         Verdict::Unknown => 1,
         Verdict::Ready(_) => 2,
-        Verdict::Malformed(fault) => body::number_of(fault) as u64,
+        Verdict::Malformed(fault) => fault.number() as u64,
         Verdict::NotCovered => 16,
-        Verdict::Waits(lack, _) => wait(lack),
-    }
-}
-
-fn wait(lack: Lack) -> u64 {
-    match lack {
-        Lack::Packing => 21,
-        Lack::Rate => 22,
-        Lack::Scale => 23,
+        Verdict::Waits(lack, _) => lack.number() as u64,
     }
 }

@@ -1,7 +1,6 @@
 // The well-formed chunks of a stream written anew, each by the call for its kind and from its values, into a slice of 2048
 // bytes. Bodies of more than 1032 bytes are left out.
 use crate::writes::Run;
-use crate::writes::body;
 use crate::writes::told;
 use body::Checked;
 use body::Kind;
@@ -46,12 +45,12 @@ fn held(out: &[u8; 2048], digest: u64) -> u64 {
 // An item that is a well-formed chunk is written.
 fn again(from: Order, to: Order, s: &[u8], item: Item, out: &mut [u8; 2048], run: Run) -> Run {
     if let Item::Chunk {
-        place,
+        place: _,
         code,
-        size,
+        size: _,
         verdict: _,
     } = item {
-        return chunk(from, to, code, body(s, place, size), out, run);
+        return chunk(from, to, code, reader::body_of(s, item), out, run);
     }
     run
 }

@@ -58,32 +58,15 @@ fn wide(x: u8) -> u64 {
     x as u64
 }
 
-// The bytes of a body that stands in s; none where it does not.
-pub(crate) fn body(s: &[u8], place: usize, size: usize) -> &[u8] {
-    if s.len() < 12 {
-        return &s[..0];
-    }
-    let most = s.len() - 12;
-    if most < place {
-        return &s[..0];
-    }
-    if most - place < size {
-        return &s[..0];
-    }
-    let from = place + 12;
-    let to = from + size;
-    &s[from..to]
-}
-
 // An item that is a chunk is written.
 fn written(order: Order, s: &[u8], item: Item, out: &mut [u8; 512], run: Run) -> Run {
     if let Item::Chunk {
-        place,
+        place: _,
         code,
-        size,
+        size: _,
         verdict: _,
     } = item {
-        return record(order, code, body(s, place, size), out, run);
+        return record(order, code, reader::body_of(s, item), out, run);
     }
     run
 }
@@ -147,7 +130,7 @@ pub(crate) fn told(written: Written, run: Run) -> Run {
         },
         Written::PastEnd => stays(place, refused(digest, 2)),
         Written::BadSize => stays(place, refused(digest, 32)),
-        Written::Malformed(fault) => stays(place, refused(digest, body::number_of(fault) as u64)),
+        Written::Malformed(fault) => stays(place, refused(digest, fault.number() as u64)),
         Written::NoRoom => stays(place, refused(digest, 31)),
     }
 }

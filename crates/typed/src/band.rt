@@ -17,5 +17,5 @@ pub fn bwof(order: Order, bandwidth: i64, offset: i64, out: &mut [u8], place: us
     let both = [bandwidth, offset];
     let mut body = [0u8; 16];
     lay::longs(order, &both, &mut body, 0);
-    writer::write(order, 0x4257_4F46, &body, out, place)
+    writer::write(order, body::kinds::BWOF, &body, out, place)
 }

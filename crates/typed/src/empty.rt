@@ -13,7 +13,7 @@ pub fn eofh(order: Order, out: &mut [u8], place: usize) -> Written
     ensures said { λ r. ⌜ writtenSaid r ≡ writeOf order (codeOf K.EOFH) [] (length (now (out .entry))) place ⌝ }
     ensures left { λ _. ⌜ now (out .exit) ≡ writtenOut order (codeOf K.EOFH) [] (now (out .entry)) place ⌝ }
 {
-    writer::write(order, 0x454F_4648, &[], out, place)
+    writer::write(order, body::kinds::EOFH, &[], out, place)
 }
 
 // IQDC: a break in the samples.
@@ -21,5 +21,5 @@ pub fn iqdc(order: Order, out: &mut [u8], place: usize) -> Written
     ensures said { λ r. ⌜ writtenSaid r ≡ writeOf order (codeOf K.IQDC) [] (length (now (out .entry))) place ⌝ }
     ensures left { λ _. ⌜ now (out .exit) ≡ writtenOut order (codeOf K.IQDC) [] (now (out .entry)) place ⌝ }
 {
-    writer::write(order, 0x4951_4443, &[], out, place)
+    writer::write(order, body::kinds::IQDC, &[], out, place)
 }

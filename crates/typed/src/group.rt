@@ -63,7 +63,7 @@ pub fn giqp(order: Order, packing: GroupPacking, out: &mut [u8], place: usize) -
     lay::words(order, &list[..used], &mut body, PACKING_HEAD);
     let all: &[u8] = &body;
     let end = PACKING_HEAD + 4 * used;
-    writer::write(order, 0x4749_5150, &all[..end], out, place)
+    writer::write(order, body::kinds::GIQP, &all[..end], out, place)
 }
 
 // GCF_: the centre frequency of each channel, in µHz.
@@ -81,7 +81,7 @@ pub fn gcf(order: Order, hertz: GroupHertz, out: &mut [u8], place: usize) -> Wri
     lay::longs(order, &list[..used], &mut body, 4);
     let all: &[u8] = &body;
     let end = 4 + 8 * used;
-    writer::write(order, 0x4743_465F, &all[..end], out, place)
+    writer::write(order, body::kinds::GCF, &all[..end], out, place)
 }
 
 // GRG_: the gain of each channel, in dB.
@@ -98,5 +98,5 @@ pub fn grg(order: Order, gains: GroupGains, out: &mut [u8], place: usize) -> Wri
     floats(order, values, used, &mut body, 4);
     let all: &[u8] = &body;
     let end = 4 + 4 * used;
-    writer::write(order, 0x4752_475F, &all[..end], out, place)
+    writer::write(order, body::kinds::GRG, &all[..end], out, place)
 }

@@ -23,8 +23,8 @@ pub fn level(order: Order, level: Level, out: &mut [u8], place: usize) -> Writte
     ensures left { λ _. ⌜ now (out .exit) ≡ writtenOut order (levelCode level) (float32 order (levelValue level)) (now (out .entry)) place ⌝ }
 {
     match level {
-        Level::FullScale(x) => float(order, 0x6442_4653, x, out, place),
-        Level::TotalGain(x) => float(order, 0x6442_5447, x, out, place),
-        Level::FloatFullScale(x) => float(order, 0x4646_535F, x, out, place),
+        Level::FullScale(x) => float(order, body::kinds::DBFS, x, out, place),
+        Level::TotalGain(x) => float(order, body::kinds::DBTG, x, out, place),
+        Level::FloatFullScale(x) => float(order, body::kinds::FFS, x, out, place),
     }
 }

@@ -31,7 +31,7 @@ pub fn siqp(order: Order, x: i32, out: &mut [u8], place: usize) -> Written
     ensures said { λ r. ⌜ writtenSaid r ≡ writeOf order (codeOf K.SIQP) (int32 order x) (length (now (out .entry))) place ⌝ }
     ensures left { λ _. ⌜ now (out .exit) ≡ writtenOut order (codeOf K.SIQP) (int32 order x) (now (out .entry)) place ⌝ }
 {
-    word(order, 0x5349_5150, x, out, place)
+    word(order, body::kinds::SIQP, x, out, place)
 }
 
 // SR__: the sample rate, in µHz.
@@ -39,7 +39,7 @@ pub fn sr(order: Order, x: i64, out: &mut [u8], place: usize) -> Written
     ensures said { λ r. ⌜ writtenSaid r ≡ writeOf order (codeOf K.SR) (int64 order x) (length (now (out .entry))) place ⌝ }
     ensures left { λ _. ⌜ now (out .exit) ≡ writtenOut order (codeOf K.SR) (int64 order x) (now (out .entry)) place ⌝ }
 {
-    long(order, 0x5352_5F5F, x, out, place)
+    long(order, body::kinds::SR, x, out, place)
 }
 
 // BW__: the bandwidth, in µHz.
@@ -47,7 +47,7 @@ pub fn bw(order: Order, x: i64, out: &mut [u8], place: usize) -> Written
     ensures said { λ r. ⌜ writtenSaid r ≡ writeOf order (codeOf K.BW) (int64 order x) (length (now (out .entry))) place ⌝ }
     ensures left { λ _. ⌜ now (out .exit) ≡ writtenOut order (codeOf K.BW) (int64 order x) (now (out .entry)) place ⌝ }
 {
-    long(order, 0x4257_5F5F, x, out, place)
+    long(order, body::kinds::BW, x, out, place)
 }
 
 // GCBW: the bandwidth of each channel of a group, in µHz.
@@ -55,7 +55,7 @@ pub fn gcbw(order: Order, x: i64, out: &mut [u8], place: usize) -> Written
     ensures said { λ r. ⌜ writtenSaid r ≡ writeOf order (codeOf K.GCBW) (int64 order x) (length (now (out .entry))) place ⌝ }
     ensures left { λ _. ⌜ now (out .exit) ≡ writtenOut order (codeOf K.GCBW) (int64 order x) (now (out .entry)) place ⌝ }
 {
-    long(order, 0x4743_4257, x, out, place)
+    long(order, body::kinds::GCBW, x, out, place)
 }
 
 // CF__: the centre frequency, in µHz.
@@ -63,7 +63,7 @@ pub fn cf(order: Order, x: i64, out: &mut [u8], place: usize) -> Written
     ensures said { λ r. ⌜ writtenSaid r ≡ writeOf order (codeOf K.CF) (int64 order x) (length (now (out .entry))) place ⌝ }
     ensures left { λ _. ⌜ now (out .exit) ≡ writtenOut order (codeOf K.CF) (int64 order x) (now (out .entry)) place ⌝ }
 {
-    long(order, 0x4346_5F5F, x, out, place)
+    long(order, body::kinds::CF, x, out, place)
 }
 
 // SOFH: the start of a file's header, with its number.
@@ -71,5 +71,5 @@ pub fn sofh(order: Order, x: i32, out: &mut [u8], place: usize) -> Written
     ensures said { λ r. ⌜ writtenSaid r ≡ writeOf order (codeOf K.SOFH) (int32 order x) (length (now (out .entry))) place ⌝ }
     ensures left { λ _. ⌜ now (out .exit) ≡ writtenOut order (codeOf K.SOFH) (int32 order x) (now (out .entry)) place ⌝ }
 {
-    word(order, 0x534F_4648, x, out, place)
+    word(order, body::kinds::SOFH, x, out, place)
 }

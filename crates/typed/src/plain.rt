@@ -37,5 +37,5 @@ pub fn text(order: Order, bytes: &[u8], out: &mut [u8], place: usize) -> Written
     lay::bytes(bytes, &mut body, 4);
     let all: &[u8] = &body;
     let end = 4 + (n + 3) / 4 * 4;
-    writer::write(order, 0x5445_5854, &all[..end], out, place)
+    writer::write(order, body::kinds::TEXT, &all[..end], out, place)
 }

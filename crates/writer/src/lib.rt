@@ -12,6 +12,7 @@ pub use shorts::ssnr;
 ghost use mathlib.Core.Path.{_≡_};
 ghost use Prim.Native.Nat.{_+_, _≤_, _<_};
 ghost use lib.ListN.{length};
+ghost use Rattle.num.specs.Answer.{refusal};
 ghost use Rattle.frame.specs.Frames.{chunkBytes};
 ghost use Rattle.frame.specs.Place.{headerSize};
 ghost use Rattle.lay.specs.Splice.{splice};
@@ -32,6 +33,21 @@ pub enum Written {
     Malformed(Fault),
     // The room left is under a header and the size: number 31.
     NoRoom,
+}
+
+impl Written {
+    // The number of the refusal: 2, 32, 11 to 15 or 31; 0 where a record was written.
+    pub fn number(self) -> u32
+        ensures { λ r. ⌜ r ≡ refusal (writtenSaid self) ⌝ }
+    {
+        match self {
+            Written::Next(_) => 0,
+            Written::PastEnd => 2,
+            Written::BadSize => 32,
+            Written::Malformed(fault) => fault.number(),
+            Written::NoRoom => 31,
+        }
+    }
 }
 
 // A header: sync word, type and size.

@@ -38,7 +38,7 @@ pub fn sfnc(order: Order, time: i64, samples: &[u32], out: &mut [u8], place: usi
     ensures said { λ r. ⌜ writtenSaid r ≡ writeOf order (codeOf K.SFNC) (patternBody order time (now (samples .entry))) (length (now (out .entry))) place ⌝ }
     ensures left { λ _. ⌜ now (out .exit) ≡ writtenOut order (codeOf K.SFNC) (patternBody order time (now (samples .entry))) (now (out .entry)) place ⌝ }
 {
-    write(order, 0x5346_4E43, 8, time, samples, out, place)
+    write(order, body::kinds::SFNC, 8, time, samples, out, place)
 }
 
 // SFNR: reals.
@@ -46,7 +46,7 @@ pub fn sfnr(order: Order, time: i64, samples: &[u32], out: &mut [u8], place: usi
     ensures said { λ r. ⌜ writtenSaid r ≡ writeOf order (codeOf K.SFNR) (patternBody order time (now (samples .entry))) (length (now (out .entry))) place ⌝ }
     ensures left { λ _. ⌜ now (out .exit) ≡ writtenOut order (codeOf K.SFNR) (patternBody order time (now (samples .entry))) (now (out .entry)) place ⌝ }
 {
-    write(order, 0x5346_4E52, 4, time, samples, out, place)
+    write(order, body::kinds::SFNR, 4, time, samples, out, place)
 }
 
 // GFNC: pairs of a group, its channels interleaved as GIQP says.
@@ -54,5 +54,5 @@ pub fn gfnc(order: Order, time: i64, samples: &[u32], out: &mut [u8], place: usi
     ensures said { λ r. ⌜ writtenSaid r ≡ writeOf order (codeOf K.GFNC) (patternBody order time (now (samples .entry))) (length (now (out .entry))) place ⌝ }
     ensures left { λ _. ⌜ now (out .exit) ≡ writtenOut order (codeOf K.GFNC) (patternBody order time (now (samples .entry))) (now (out .entry)) place ⌝ }
 {
-    write(order, 0x4746_4E43, 8, time, samples, out, place)
+    write(order, body::kinds::GFNC, 8, time, samples, out, place)
 }

@@ -38,7 +38,7 @@ pub fn ssnc(order: Order, time: i64, samples: &[i16], out: &mut [u8], place: usi
     ensures said { λ r. ⌜ writtenSaid r ≡ writeOf order (codeOf K.SSNC) (shortBody order time (now (samples .entry))) (length (now (out .entry))) place ⌝ }
     ensures left { λ _. ⌜ now (out .exit) ≡ writtenOut order (codeOf K.SSNC) (shortBody order time (now (samples .entry))) (now (out .entry)) place ⌝ }
 {
-    write(order, 0x5353_4E43, 4, time, samples, out, place)
+    write(order, body::kinds::SSNC, 4, time, samples, out, place)
 }
 
 // SSNR: reals.
@@ -46,7 +46,7 @@ pub fn ssnr(order: Order, time: i64, samples: &[i16], out: &mut [u8], place: usi
     ensures said { λ r. ⌜ writtenSaid r ≡ writeOf order (codeOf K.SSNR) (shortBody order time (now (samples .entry))) (length (now (out .entry))) place ⌝ }
     ensures left { λ _. ⌜ now (out .exit) ≡ writtenOut order (codeOf K.SSNR) (shortBody order time (now (samples .entry))) (now (out .entry)) place ⌝ }
 {
-    write(order, 0x5353_4E52, 2, time, samples, out, place)
+    write(order, body::kinds::SSNR, 2, time, samples, out, place)
 }
 
 // GSNC: pairs of a group, its channels interleaved as GIQP says.
@@ -54,5 +54,5 @@ pub fn gsnc(order: Order, time: i64, samples: &[i16], out: &mut [u8], place: usi
     ensures said { λ r. ⌜ writtenSaid r ≡ writeOf order (codeOf K.GSNC) (shortBody order time (now (samples .entry))) (length (now (out .entry))) place ⌝ }
     ensures left { λ _. ⌜ now (out .exit) ≡ writtenOut order (codeOf K.GSNC) (shortBody order time (now (samples .entry))) (now (out .entry)) place ⌝ }
 {
-    write(order, 0x4753_4E43, 4, time, samples, out, place)
+    write(order, body::kinds::GSNC, 4, time, samples, out, place)
 }

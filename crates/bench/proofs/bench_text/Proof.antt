@@ -1,8 +1,8 @@
 -- The number of the fault in the order that the number names.
 use mathlib.Core.Path.{ap, sym, _∙_}
 use borrow.Author.Needs.{needs}
+use Rattle.num.specs.Answer.{refusal}
 use Rattle.body.specs.Plain.{textSaid}
-use Rattle.bench.specs.Plain.{refusal}
 use Rattle.bench.proofs.bench_text.Statement.{statement}
 use Rattle.bench.proofs.bench_text.Tie as tie
 
@@ -18,8 +18,8 @@ enum-told c = search needs
 enum-known-f : tie.Need-enum-known-f
 enum-known-f c = search needs
 
-number-of-requires : tie.Need-number-of-requires
-number-of-requires c κs = search needs
+number-requires : tie.Need-number-requires
+number-requires c κs = search needs
 
 returns : tie.Need-returns
 returns c =
@@ -30,7 +30,7 @@ returns-2 : tie.Need-returns-2
 returns-2 c =
     let f = c .before .before in
     let k = f .before .before in
-    rw (← k .before .order-by .ensures) (c .number-of .ensures ∙ (ap (λ r. refusal (textSaid r)) (sym (f .f .given .1)) ∙ ap refusal (k .text .ensures)))
+    rw (← k .before .order-by .ensures) (c .number .ensures ∙ (ap (λ r. refusal (textSaid r)) (sym (f .f .given .1)) ∙ ap refusal (k .text .ensures)))
 
 pub bench-text-spec : {M : Type 1} → statement M
 bench-text-spec =
@@ -40,6 +40,6 @@ bench-text-spec =
     text-requires
     enum-told
     enum-known-f
-    number-of-requires
+    number-requires
     returns
     returns-2)

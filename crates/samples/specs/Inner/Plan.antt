@@ -7,6 +7,7 @@ use lib.Dec.{leb}
 use lib.ListN.{length, take, drop}
 use Rattle.num.specs.Answer.{Answer, gives, refuses}
 use Rattle.num.specs.Choice.{pick, each}
+use Rattle.frame.specs.Place.{headerSize, frontSize}
 use Rattle.copy.specs.Samples.{inside, placeOf}
 use Rattle.samples.specs.Copy.{copiedSaid, countWithin, filled}
 use Rattle.samples.specs.declared.Copied.{Copied}
@@ -45,7 +46,7 @@ Refuses a why = (n : ℕ) × (a ≡ refuses n) × (copiedSaid why ≡ refuses n)
 
 -- what is planned for a chunk at a place and of a size is the layout in its samples, which stand behind its header and its time
 abbrev pub Plans : Answer Layout → ℕ → ℕ → Planned → Type 0
-Plans a at size (Go l from to) = (a ≡ gives l) × (from ≡ at + 20) × (to ≡ at + 12 + size)
+Plans a at size (Go l from to) = (a ≡ gives l) × (from ≡ at + frontSize) × (to ≡ at + headerSize + size)
 Plans a at size (Refused why) = Refuses a why
 
 -- what is planned is the layout in these sample bytes

@@ -25,8 +25,8 @@ enum-known-verdict c = search needs
 slice-aggregate-numbered : tie.Need-slice-aggregate-numbered
 slice-aggregate-numbered c = search needs
 
-number-of-requires : tie.Need-number-of-requires
-number-of-requires c κs = search needs
+number-requires : tie.Need-number-requires
+number-requires c κs = search needs
 
 cast-numbered : tie.Need-cast-numbered
 cast-numbered c = search needs
@@ -49,8 +49,11 @@ enum-known-verdict-2 c = search needs
 slice-aggregate-numbered-3 : tie.Need-slice-aggregate-numbered-3
 slice-aggregate-numbered-3 c = search needs
 
-number-of-requires-2 : tie.Need-number-of-requires-2
-number-of-requires-2 c κs = search needs
+number-requires-2 : tie.Need-number-requires-2
+number-requires-2 c κs = search needs
+
+cast-numbered-2 : tie.Need-cast-numbered-2
+cast-numbered-2 c = search needs
 
 numbered-requires-3 : tie.Need-numbered-requires-3
 numbered-requires-3 c κs = search needs
@@ -64,7 +67,7 @@ returns-2 c = rw (c .before .before .enum-told .given .1) (c .word2 .ensures)
 returns-3 : tie.Need-returns-3
 returns-3 c =
     let v = c .before .before .before .before .verdict .given in
-    rw (v .1, ← c .before .number-of .ensures) (c .numbered .ensures)
+    rw (v .1, ← c .before .number .ensures) (c .numbered .ensures)
 
 returns-4 : tie.Need-returns-4
 returns-4 c = rw (c .before .before .enum-told2 .given .1) (c .numbered2 .ensures)
@@ -72,7 +75,7 @@ returns-4 c = rw (c .before .before .enum-told2 .given .1) (c .numbered2 .ensure
 returns-5 : tie.Need-returns-5
 returns-5 c =
     let v = c .before .before .before .before .verdict2 .given in
-    rw (v .1, ← c .before .number-of2 .ensures) (c .numbered3 .ensures)
+    rw (v .1, ← c .before .number2 .ensures) (c .numbered3 .ensures)
 
 pub judged-spec : {M : Type 1} → statement M
 judged-spec =
@@ -85,7 +88,7 @@ judged-spec =
     word-requires-2
     enum-known-verdict
     slice-aggregate-numbered
-    number-of-requires
+    number-requires
     cast-numbered
     numbered-requires
     enum-told-2
@@ -93,7 +96,8 @@ judged-spec =
     numbered-requires-2
     enum-known-verdict-2
     slice-aggregate-numbered-3
-    number-of-requires-2
+    number-requires-2
+    cast-numbered-2
     numbered-requires-3
     returns
     returns-2

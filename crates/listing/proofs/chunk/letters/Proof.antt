@@ -6,8 +6,8 @@ use borrow.Author.Needs.{needs}
 use Rattle.listing.proofs.chunk.letters.Statement.{statement}
 use Rattle.listing.proofs.chunk.letters.Tie as tie
 
-u32-bytes-requires : tie.Need-u32-bytes-requires
-u32-bytes-requires c κs = search needs
+letters-of-requires : tie.Need-letters-of-requires
+letters-of-requires c κs = search needs
 
 slice-aggregate-word : tie.Need-slice-aggregate-word
 slice-aggregate-word c = search needs
@@ -26,13 +26,13 @@ joined-requires c κs = search needs
 
 returns : tie.Need-returns
 returns c =
-    c .joined .ensures ∙ join-texts _ _ _ _ (c .before .before .before .word .ensures) (c .before .word2 .ensures ∙ ap textOf (c .before .before .before .before .before .u32-bytes .ensures))
+    c .joined .ensures ∙ join-texts _ _ _ _ (c .before .before .before .word .ensures) (c .before .word2 .ensures ∙ ap textOf (c .before .before .before .before .before .letters-of .ensures))
 
 pub letters-spec : {M : Type 1} → statement M
 letters-spec =
     tie.close
     (tie.spec
-    u32-bytes-requires
+    letters-of-requires
     slice-aggregate-word
     word-requires
     slice-aggregate-word-2

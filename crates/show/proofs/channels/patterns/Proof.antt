@@ -13,11 +13,11 @@ abbrev μ-loop : tie.MeasureT-loop
 pattern-room-requires : tie.Need-pattern-room-requires Inv-loop μ-loop
 pattern-room-requires c κs = search needs
 
-slice-aggregate-patterns-at : tie.Need-slice-aggregate-patterns-at Inv-loop μ-loop
-slice-aggregate-patterns-at c = search needs
+slice-aggregate-patterns-of : tie.Need-slice-aggregate-patterns-of Inv-loop μ-loop
+slice-aggregate-patterns-of c = search needs
 
-patterns-at-requires : tie.Need-patterns-at-requires Inv-loop μ-loop
-patterns-at-requires c κs = search needs
+patterns-of-requires : tie.Need-patterns-of-requires Inv-loop μ-loop
+patterns-of-requires c κs = search needs
 
 enum-known-n : tie.Need-enum-known-n Inv-loop μ-loop
 enum-known-n c = search needs
@@ -65,8 +65,8 @@ patterns-spec =
     Inv-loop
     μ-loop
     pattern-room-requires
-    slice-aggregate-patterns-at
-    patterns-at-requires
+    slice-aggregate-patterns-of
+    patterns-of-requires
     enum-known-n
     head-requires
     loop-holds

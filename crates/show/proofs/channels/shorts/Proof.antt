@@ -13,11 +13,11 @@ abbrev μ-loop : tie.MeasureT-loop
 short-room-requires : tie.Need-short-room-requires Inv-loop μ-loop
 short-room-requires c κs = search needs
 
-slice-aggregate-shorts-at : tie.Need-slice-aggregate-shorts-at Inv-loop μ-loop
-slice-aggregate-shorts-at c = search needs
+slice-aggregate-shorts-of : tie.Need-slice-aggregate-shorts-of Inv-loop μ-loop
+slice-aggregate-shorts-of c = search needs
 
-shorts-at-requires : tie.Need-shorts-at-requires Inv-loop μ-loop
-shorts-at-requires c κs = search needs
+shorts-of-requires : tie.Need-shorts-of-requires Inv-loop μ-loop
+shorts-of-requires c κs = search needs
 
 enum-known-n : tie.Need-enum-known-n Inv-loop μ-loop
 enum-known-n c = search needs
@@ -68,8 +68,8 @@ shorts-spec =
     Inv-loop
     μ-loop
     short-room-requires
-    slice-aggregate-shorts-at
-    shorts-at-requires
+    slice-aggregate-shorts-of
+    shorts-of-requires
     enum-known-n
     head-requires
     loop-holds

@@ -1,0 +1,65 @@
+-- The arm of each order has its words, and where there is none the text is that of the number.
+use Rattle.answers.proofs.Told.{by-number}
+use borrow.Author.Needs.{needs}
+use Rattle.answers.proofs.order.Statement.{statement}
+use Rattle.answers.proofs.order.Tie as tie
+use Rattle.answers.proofs.refusal.Reads as refusal-reads
+use Rattle.frame.proofs.OrderFound.number.Reads as number-reads
+use Rattle.listing.proofs.string.word.Reads as word-reads
+
+enum-known-found : tie.Need-enum-known-found
+enum-known-found c = search needs
+
+enum-told : tie.Need-enum-told
+enum-told c = search needs
+
+slice-aggregate-word : tie.Need-slice-aggregate-word
+slice-aggregate-word c = search needs
+
+word-requires : tie.Need-word-requires
+word-requires c κs = search needs
+
+enum-told-2 : tie.Need-enum-told-2
+enum-told-2 c = search needs
+
+slice-aggregate-word-2 : tie.Need-slice-aggregate-word-2
+slice-aggregate-word-2 c = search needs
+
+word-requires-2 : tie.Need-word-requires-2
+word-requires-2 c κs = search needs
+
+enum-told-3 : tie.Need-enum-told-3
+enum-told-3 c = search needs
+
+number-requires : tie.Need-number-requires
+number-requires c κs = search needs
+
+refusal-requires : tie.Need-refusal-requires
+refusal-requires c κs = search needs
+
+returns : tie.Need-returns
+returns c = rw (c .before .before .before .before .before .found .given .1, c .before .before .enum-told .given .1) (c .word .ensures)
+
+returns-2 : tie.Need-returns-2
+returns-2 c = rw (c .before .before .before .before .before .found .given .1, c .before .before .enum-told2 .given .1) (c .word2 .ensures)
+
+returns-3 : tie.Need-returns-3
+returns-3 c = by-number (c .refusal .ensures) (c .before .number .ensures) (rw (c .before .before .enum-told3 .given .1))
+
+pub order-spec : {M : Type 1} → statement M
+order-spec =
+    tie.close
+    (tie.spec
+    enum-known-found
+    enum-told
+    slice-aggregate-word
+    word-requires
+    enum-told-2
+    slice-aggregate-word-2
+    word-requires-2
+    enum-told-3
+    number-requires
+    refusal-requires
+    returns
+    returns-2
+    returns-3)
