@@ -1,5 +1,5 @@
-// Short texts that say what an answer means, handed back by value. A refusal has one text, by its number, whichever call
-// answered with it.
+// Short texts that say what an answer means, handed back by value. A refusal has one text, by its number, whichever
+// call answered with it.
 ghost use mathlib.Core.Path.{_≡_};
 ghost use Rattle.effect.specs.Says.{lackNumber, verdictSaid};
 ghost use Rattle.body.specs.Fault.{faultNumber};

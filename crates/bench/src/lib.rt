@@ -178,8 +178,16 @@ pub extern "C" fn bench_shorts(
     channel: usize,
     out: &mut [i16],
 ) -> usize
-    ensures { λ r. ⌜ r ≡ orZero (countOf false (orderBy order) (now (s .entry)) (after steps (orderBy order) (now (s .entry)) newCursor) channel (length (now (out .entry)))) ⌝ }
-    ensures { λ _. ⌜ now (out .exit) ≡ filled (countOf false (orderBy order) (now (s .entry)) (after steps (orderBy order) (now (s .entry)) newCursor) channel (length (now (out .entry)))) (layoutAt false (orderBy order) (now (s .entry)) (after steps (orderBy order) (now (s .entry)) newCursor) channel) (shortAt (orderBy order) (samplesAt (orderBy order) (now (s .entry)) (after steps (orderBy order) (now (s .entry)) newCursor))) (now (out .entry)) ⌝ }
+    ensures { λ r. ⌜ r
+        ≡ orZero (countOf false (orderBy order) (now (s .entry))
+        (after steps (orderBy order) (now (s .entry)) newCursor) channel (length (now (out .entry)))) ⌝ }
+    ensures { λ _. ⌜ now (out .exit)
+        ≡ filled (countOf false (orderBy order) (now (s .entry))
+        (after steps (orderBy order) (now (s .entry)) newCursor) channel (length (now (out .entry))))
+        (layoutAt false (orderBy order) (now (s .entry))
+        (after steps (orderBy order) (now (s .entry)) newCursor) channel)
+        (shortAt (orderBy order) (samplesAt (orderBy order) (now (s .entry))
+        (after steps (orderBy order) (now (s .entry)) newCursor))) (now (out .entry)) ⌝ }
 {
     let by = order_by(order);
     let walked = walk(by, s, steps);
@@ -195,8 +203,16 @@ pub extern "C" fn bench_patterns(
     channel: usize,
     out: &mut [u32],
 ) -> usize
-    ensures { λ r. ⌜ r ≡ orZero (countOf true (orderBy order) (now (s .entry)) (after steps (orderBy order) (now (s .entry)) newCursor) channel (length (now (out .entry)))) ⌝ }
-    ensures { λ _. ⌜ now (out .exit) ≡ filled (countOf true (orderBy order) (now (s .entry)) (after steps (orderBy order) (now (s .entry)) newCursor) channel (length (now (out .entry)))) (layoutAt true (orderBy order) (now (s .entry)) (after steps (orderBy order) (now (s .entry)) newCursor) channel) (patternAt (orderBy order) (samplesAt (orderBy order) (now (s .entry)) (after steps (orderBy order) (now (s .entry)) newCursor))) (now (out .entry)) ⌝ }
+    ensures { λ r. ⌜ r
+        ≡ orZero (countOf true (orderBy order) (now (s .entry))
+        (after steps (orderBy order) (now (s .entry)) newCursor) channel (length (now (out .entry)))) ⌝ }
+    ensures { λ _. ⌜ now (out .exit)
+        ≡ filled (countOf true (orderBy order) (now (s .entry))
+        (after steps (orderBy order) (now (s .entry)) newCursor) channel (length (now (out .entry))))
+        (layoutAt true (orderBy order) (now (s .entry))
+        (after steps (orderBy order) (now (s .entry)) newCursor) channel)
+        (patternAt (orderBy order) (samplesAt (orderBy order) (now (s .entry))
+        (after steps (orderBy order) (now (s .entry)) newCursor))) (now (out .entry)) ⌝ }
 {
     let by = order_by(order);
     let walked = walk(by, s, steps);

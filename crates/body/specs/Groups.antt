@@ -34,7 +34,8 @@ noGains = record { n = 0; values = replicate 16 (ofBits binary32 0) }
 abbrev pub valueOr : {A : Type 0} → A → Answer A → A
 valueOr none a = orElse none (λ x. x) a
 
--- a checker's answer that has its value beside it: it says what the rule says, and a malformed body leaves the value absent
+-- a checker's answer that has its value beside it: it says what the rule says, and a malformed body leaves the value
+-- absent
 pub record Read {A : Type 0} (checked : Checked) (value none : A) (rule : Answer A) : Type 0 where
   pub said : checkedSaid checked value ≡ rule
   pub holds : value ≡ valueOr none rule
@@ -43,7 +44,8 @@ pub record Read {A : Type 0} (checked : Checked) (value none : A) (rule : Answer
 abbrev pub withChannels : {A : Type 0} → ℤ → (ℕ → Answer A) → Answer A
 withChannels z f = pick (both (leZ (pos 1) z) (leZ z (pos 16))) (f (natAbs z)) (refuses 13)
 
--- a count n first, then whatever else stands before the values, then n values: the size up to the values, the size of a value
+-- a count n first, then whatever else stands before the values, then n values: the size up to the values, the size of a
+-- value
 unfoldable pub listed : {A : Type 0} → ℕ → ℕ → Order → List ℕ → (ℕ → Answer A) → Answer A
 listed head value o body f =
     pick (ltb (length body) head) (refuses 11)
@@ -73,7 +75,12 @@ offsetsOk o body n = each (λ c. leZ (pos 0) (offsetAt o body c)) n
 unfoldable pub packed : Order → List ℕ → ℕ → Answer GroupPacking
 packed o body n =
     allowed (both (headOk n (int32 o body 4) (int32 o body 8)) (offsetsOk o body n))
-    (record { n = n; iq = isNumber 1 (int32 o body 4); increment = natAbs (int32 o body 8); offsets = sixteen (λ c. natAbs (offsetAt o body c)) 0 n })
+    (record {
+      n = n;
+      iq = isNumber 1 (int32 o body 4);
+      increment = natAbs (int32 o body 8);
+      offsets = sixteen (λ c. natAbs (offsetAt o body c)) 0 n;
+    })
 
 abbrev pub giqp : Order → List ℕ → Answer GroupPacking
 giqp o body = listed packingHead 4 o body (packed o body)
@@ -96,7 +103,8 @@ abbrev pub gainsOk : Order → List ℕ → ℕ → Bool
 gainsOk o body n = each (λ c. isFinite (gainAt o body c)) n
 
 unfoldable pub amplified : Order → List ℕ → ℕ → Answer GroupGains
-amplified o body n = allowed (gainsOk o body n) (record { n = n; values = sixteen (gainAt o body) (ofBits binary32 0) n })
+amplified o body n =
+    allowed (gainsOk o body n) (record { n = n; values = sixteen (gainAt o body) (ofBits binary32 0) n })
 
 abbrev pub grg : Order → List ℕ → Answer GroupGains
 grg o body = listed 4 4 o body (amplified o body)

@@ -34,7 +34,8 @@ codeOf Unknown = 0
 
 unfoldable pub known : List Kind
 known =
-    SSNC ∷ SSNR ∷ SFNC ∷ SFNR ∷ GSNC ∷ GFNC ∷ SIQP ∷ SR ∷ BW ∷ GCBW ∷ BWOF ∷ CF ∷ DBFS ∷ DBTG ∷ FFS ∷ GIQP ∷ GCF ∷ GRG ∷ SOFH ∷ EOFH ∷ IQDC ∷ TEXT ∷ []
+    SSNC ∷ SSNR ∷ SFNC ∷ SFNR ∷ GSNC ∷ GFNC ∷ SIQP ∷ SR ∷ BW ∷ GCBW ∷ BWOF ∷ CF
+    ∷ DBFS ∷ DBTG ∷ FFS ∷ GIQP ∷ GCF ∷ GRG ∷ SOFH ∷ EOFH ∷ IQDC ∷ TEXT ∷ []
 
 -- the kind among these whose type is n, or that there is none
 unfoldable pub kindIn : List Kind → ℕ → Kind

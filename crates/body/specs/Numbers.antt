@@ -25,7 +25,8 @@ bandSaid (band.Malformed f) = refuses (faultNumber f)
 
 -- SIQP: an int32, 1 for I before Q, 0 for Q before I
 abbrev pub siqp : Order → List ℕ → Answer ℤ
-siqp o body = sized 4 body (allowed (both (leZ (pos 0) (int32 o body 0)) (leZ (int32 o body 0) (pos 1))) (int32 o body 0))
+siqp o body =
+    sized 4 body (allowed (both (leZ (pos 0) (int32 o body 0)) (leZ (int32 o body 0) (pos 1))) (int32 o body 0))
 
 -- SOFH: any int32
 abbrev pub sofh : Order → List ℕ → Answer ℤ
@@ -49,4 +50,5 @@ cf o body = sized 8 body (gives (int64 o body 0))
 
 -- BWOF: a bandwidth as in BW__, then any offset
 abbrev pub bwof : Order → List ℕ → Answer Band
-bwof o body = sized 16 body (allowed (leZ (pos 0) (int64 o body 0)) (record { width = int64 o body 0; offset = int64 o body 8 }))
+bwof o body =
+    sized 16 body (allowed (leZ (pos 0) (int64 o body 0)) (record { width = int64 o body 0; offset = int64 o body 8 }))

@@ -33,7 +33,8 @@ zeros (b ∷ l) = both (eqb b 0) (zeros l)
 abbrev pub padded : ℕ → ℕ
 padded n = (n + 3) / 4 * 4
 
--- n bytes of text in a body: its size is that of the padded text, number 11; its padding is zero, 14; its text is UTF-8, 15
+-- n bytes of text in a body: its size is that of the padded text, number 11; its padding is zero, 14; its text is
+-- UTF-8, 15
 unfoldable pub texts : List ℕ → ℕ → Answer ℕ
 texts body n =
     sized (4 + padded n) body

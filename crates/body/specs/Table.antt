@@ -1,5 +1,5 @@
--- The table of kinds: for each kind how its body is read, and what it does to the state. Whatever differs by kind follows from
--- its row.
+-- The table of kinds: for each kind how its body is read, and what it does to the state. Whatever differs by kind
+-- follows from its row.
 use Prim.Native.Nat.{ℕ}
 use mathlib.Core.Bool.{Bool, true, false}
 use mathlib.Core.List.{List}
@@ -84,7 +84,8 @@ abbrev pub isSlot : Slot → Slot → Bool
 isSlot y x = eqb (slotNumber y) (slotNumber x)
 
 pub data Row : Type 1 where
-  -- sets a value, or removes it where it is malformed: its slot, how the slot holds what was read, and how a body is read
+  -- sets a value, or removes it where it is malformed: its slot, how the slot holds what was read, and how a body is
+  -- read
   sets : {A : Type 0} (x : Slot) → (A → Value x) → (Order → List ℕ → Answer A) → Row
   -- sets the start mark where it is well-formed
   marks : {A : Type 0} → (Order → List ℕ → Answer A) → Row

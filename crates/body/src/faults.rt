@@ -2,6 +2,7 @@
 ghost use mathlib.Core.Path.{_≡_};
 ghost use Rattle.body.specs.Fault.{faultNumber};
 
+// What is wrong with a body.
 pub enum Fault {
     // The size is not that of the kind, or a text's length does not fit: number 11.
     Size,
@@ -30,7 +31,7 @@ impl Fault {
     }
 }
 
-// A verdict on a body.
+// Whether a body is well-formed, or what is wrong with it.
 pub enum Checked {
     Good,
     Malformed(Fault),

@@ -18,8 +18,9 @@ use num::Order;
 // The bytes of a GIQP before its offsets: n, packing and increment.
 pub const PACKING_HEAD: usize = 12;
 
-// How the pairs of a group chunk are packed: n channels, 0 where absent; I before Q or not; the step from one sample of a
-// channel to its next, in pairs; the first pair of each channel, and 0 in the places that are not used.
+// GIQP: how the pairs of a group chunk are packed. n is the number of channels, 0 where the value is absent; iq says
+// whether I stands before Q; increment is the step from one sample of a channel to its next, in pairs; offsets has the
+// first pair of each channel, and 0 in the places from n on.
 pub struct GroupPacking {
     pub n: usize,
     pub iq: bool,
@@ -27,29 +28,31 @@ pub struct GroupPacking {
     pub offsets: [u32; 16],
 }
 
-// A frequency for each of n channels, in µHz.
+// GCF_: a frequency for each of n channels, in µHz. n is 0 where the value is absent; the places from n on hold 0.
 pub struct GroupHertz {
     pub n: usize,
     pub values: [i64; 16],
 }
 
-// A gain for each of n channels, in dB.
+// GRG_: a gain for each of n channels, in dB. n is 0 where the value is absent; the places from n on hold 0.
 pub struct GroupGains {
     pub n: usize,
     pub values: [f32; 16],
 }
 
-// The verdict, and the value: absent where the body is malformed.
+// The verdict on a GIQP body, and its value, which is absent where the body is malformed.
 pub struct GroupPackingRead {
     pub checked: Checked,
     pub packing: GroupPacking,
 }
 
+// The same of a GCF_ body.
 pub struct GroupHertzRead {
     pub checked: Checked,
     pub hertz: GroupHertz,
 }
 
+// The same of a GRG_ body.
 pub struct GroupGainsRead {
     pub checked: Checked,
     pub gains: GroupGains,
@@ -60,6 +63,7 @@ enum ChannelsRead {
     Malformed(Fault),
 }
 
+// An absent GIQP.
 pub fn no_packing() -> GroupPacking
     ensures { λ r. ⌜ r ≡ noPacking ⌝ }
 {
@@ -71,6 +75,7 @@ pub fn no_packing() -> GroupPacking
     }
 }
 
+// An absent GCF_.
 pub fn no_hertz() -> GroupHertz
     ensures { λ r. ⌜ r ≡ noHertz ⌝ }
 {
@@ -80,6 +85,7 @@ pub fn no_hertz() -> GroupHertz
     }
 }
 
+// An absent GRG_.
 pub fn no_gains() -> GroupGains
     ensures { λ r. ⌜ r ≡ noGains ⌝ }
 {
@@ -217,7 +223,8 @@ fn packing_of(order: Order, body: &[u8], n: usize) -> GroupPackingRead
     }
 }
 
-// GIQP: how the pairs of group chunks are packed.
+// Reads a GIQP body. Malformed: 11 a wrong size, 13 not 1 to 16 channels, 12 a packing, increment or offset that is not
+// allowed.
 pub fn giqp(order: Order, body: &[u8]) -> GroupPackingRead
     ensures { λ r. ⌜ Read (r .checked) (r .packing) noPacking (giqp order (now (body .entry))) ⌝ }
 {
@@ -227,7 +234,7 @@ pub fn giqp(order: Order, body: &[u8]) -> GroupPackingRead
     }
 }
 
-// GCF_: the centre frequency of each channel.
+// Reads a GCF_ body, a frequency for each channel. Malformed: 11 a wrong size, 13 not 1 to 16 channels.
 pub fn gcf(order: Order, body: &[u8]) -> GroupHertzRead
     ensures { λ r. ⌜ Read (r .checked) (r .hertz) noHertz (gcf order (now (body .entry))) ⌝ }
 {
@@ -272,7 +279,8 @@ fn gains_of(order: Order, body: &[u8], n: usize) -> GroupGainsRead
     }
 }
 
-// GRG_: the gain of each channel.
+// Reads a GRG_ body, a gain for each channel. Malformed: 11 a wrong size, 13 not 1 to 16 channels, 12 a gain that is
+// not finite.
 pub fn grg(order: Order, body: &[u8]) -> GroupGainsRead
     ensures { λ r. ⌜ Read (r .checked) (r .gains) noGains (grg order (now (body .entry))) ⌝ }
 {

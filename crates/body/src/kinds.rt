@@ -76,7 +76,7 @@ pub const IQDC: u32 = 0x49514443;
 
 pub const TEXT: u32 = 0x54455854;
 
-// The kind of a type; unknown where no kind has it.
+// The kind of a type; Unknown where no kind has it.
 pub fn kind_of(code: u32) -> Kind
     ensures { λ r. ⌜ r ≡ kindOf code ⌝ }
 {
@@ -107,7 +107,7 @@ pub fn kind_of(code: u32) -> Kind
     }
 }
 
-// The type of a kind; 0 for an unknown one, which has none.
+// The type of a kind; 0 for Unknown, which has none.
 pub fn code_of(kind: Kind) -> u32
     ensures { λ r. ⌜ r ≡ codeOf kind ⌝ }
 {
@@ -138,7 +138,7 @@ pub fn code_of(kind: Kind) -> u32
     }
 }
 
-// The four letters of a type, the first the most significant byte, whether a kind has it or not.
+// The four letters of a type, known or not: its bytes, the most significant first.
 pub fn letters_of(code: u32) -> [u8; 4]
     ensures { λ r. ⌜ r ≡ bytesOf Order.Big 4 code ⌝ }
 {

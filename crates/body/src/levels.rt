@@ -16,6 +16,7 @@ pub enum Level {
     FloatFullScale(f32),
 }
 
+// The level in a body, or what is wrong with the body.
 pub enum LevelRead {
     Is(Level),
     Malformed(Fault),
@@ -26,7 +27,7 @@ enum FloatRead {
     Malformed(Fault),
 }
 
-// The pattern of a number; a NaN has one, which no level allows.
+// The 32 bits of a float. Every NaN gives 7FC00000, which no level allows.
 pub fn pattern(x: f32) -> u32
     ensures { λ r. ⌜ r ≡ toBits binary32 x ⌝ }
 {
@@ -48,7 +49,7 @@ fn finite(order: Order, body: &[u8]) -> FloatRead
     FloatRead::Is(f32::from_bits(p))
 }
 
-// dBFS: full scale.
+// Reads a dBFS body. Malformed: 11 unless it has four bytes, 12 unless they are a finite float.
 pub fn dbfs(order: Order, body: &[u8]) -> LevelRead
     ensures { λ r. ⌜ levelSaid r ≡ dbfs order (now (body .entry)) ⌝ }
 {
@@ -58,7 +59,7 @@ pub fn dbfs(order: Order, body: &[u8]) -> LevelRead
     }
 }
 
-// dBTG: total gain.
+// Reads a dBTG body. Malformed as dBFS.
 pub fn dbtg(order: Order, body: &[u8]) -> LevelRead
     ensures { λ r. ⌜ levelSaid r ≡ dbtg order (now (body .entry)) ⌝ }
 {
@@ -68,7 +69,7 @@ pub fn dbtg(order: Order, body: &[u8]) -> LevelRead
     }
 }
 
-// FFS_: float full scale, above 0.
+// Reads an FFS_ body. Malformed as dBFS, and with 12 also where the float is not above 0.
 pub fn ffs(order: Order, body: &[u8]) -> LevelRead
     ensures { λ r. ⌜ levelSaid r ≡ ffs order (now (body .entry)) ⌝ }
 {

@@ -4,7 +4,7 @@ ghost use Rattle.body.specs.Numbers.{numberSaid, bandSaid, siqp, sofh, a
 use crate::faults::Fault;
 use num::Order;
 
-// The number of a body, or what is wrong.
+// The number in a body, or what is wrong with the body.
 pub enum NumberRead {
     Is(i64),
     Malformed(Fault),
@@ -16,12 +16,13 @@ pub struct Band {
     pub offset: i64,
 }
 
+// The bandwidth and offset in a body, or what is wrong with the body.
 pub enum BandRead {
     Is(Band),
     Malformed(Fault),
 }
 
-// SIQP: 1 for I before Q, 0 for Q before I.
+// Reads a SIQP body: 1 for I before Q, 0 for Q before I. Malformed: 11 unless it has four bytes, 12 any other number.
 pub fn siqp(order: Order, body: &[u8]) -> NumberRead
     ensures { λ r. ⌜ numberSaid r ≡ siqp order (now (body .entry)) ⌝ }
 {
@@ -38,7 +39,7 @@ pub fn siqp(order: Order, body: &[u8]) -> NumberRead
     NumberRead::Is(v as i64)
 }
 
-// SOFH: the format of a file, any number.
+// Reads a SOFH body, the format of a file. Malformed: 11 unless it has four bytes.
 pub fn sofh(order: Order, body: &[u8]) -> NumberRead
     ensures { λ r. ⌜ numberSaid r ≡ sofh order (now (body .entry)) ⌝ }
 {
@@ -61,21 +62,22 @@ fn at_least(order: Order, body: &[u8], least: i64) -> NumberRead
     NumberRead::Is(v)
 }
 
-// SR__: the sample rate in µHz, at least 1.
+// Reads an SR__ body, the sample rate in µHz. Malformed: 11 unless it has eight bytes, 12 where the rate is below 1.
 pub fn sr(order: Order, body: &[u8]) -> NumberRead
     ensures { λ r. ⌜ numberSaid r ≡ sr order (now (body .entry)) ⌝ }
 {
     at_least(order, body, 1)
 }
 
-// BW__ and GCBW: a bandwidth in µHz, at least 0.
+// Reads a BW__ or GCBW body, a bandwidth in µHz. Malformed: 11 unless it has eight bytes, 12 where the number is
+// negative.
 pub fn bw(order: Order, body: &[u8]) -> NumberRead
     ensures { λ r. ⌜ numberSaid r ≡ bw order (now (body .entry)) ⌝ }
 {
     at_least(order, body, 0)
 }
 
-// CF__: the centre frequency in µHz.
+// Reads a CF__ body, the centre frequency in µHz. Malformed: 11 unless it has eight bytes.
 pub fn cf(order: Order, body: &[u8]) -> NumberRead
     ensures { λ r. ⌜ numberSaid r ≡ cf order (now (body .entry)) ⌝ }
 {
@@ -85,7 +87,8 @@ pub fn cf(order: Order, body: &[u8]) -> NumberRead
     NumberRead::Is(num::i64_at(order, body, 0))
 }
 
-// BWOF: a bandwidth as in BW__, and its offset.
+// Reads a BWOF body, a bandwidth and its offset. Malformed: 11 unless it has sixteen bytes, 12 where the bandwidth is
+// negative.
 pub fn bwof(order: Order, body: &[u8]) -> BandRead
     ensures { λ r. ⌜ bandSaid r ≡ bwof order (now (body .entry)) ⌝ }
 {

@@ -7,13 +7,13 @@ use crate::faults::Checked;
 use crate::faults::Fault;
 use num::Order;
 
-// The length of a text, which starts at place 4 of the body, or what is wrong.
+// The length of the text in a body, or what is wrong with the body. The text starts at place 4 of the body.
 pub enum TextRead {
     Is(usize),
     Malformed(Fault),
 }
 
-// EOFH and IQDC: empty.
+// Checks an EOFH or IQDC body. Malformed: 11 unless it is empty.
 pub fn empty(body: &[u8]) -> Checked
     ensures { λ r. ⌜ checkedSaid r tt ≡ empty (now (body .entry)) ⌝ }
 {
@@ -57,7 +57,8 @@ fn texts(body: &[u8], n: usize) -> TextRead
     TextRead::Is(n)
 }
 
-// TEXT: a length, so many bytes of UTF-8, and zero bytes up to the next multiple of 4.
+// Reads a TEXT body: a length, so many bytes of UTF-8, and zero bytes up to the next multiple of 4. Malformed: 11 a
+// size or length that does not fit, 14 padding that is not zero, 15 a text that is not UTF-8.
 pub fn text(order: Order, body: &[u8]) -> TextRead
     ensures { λ r. ⌜ textSaid r ≡ text order (now (body .entry)) ⌝ }
 {

@@ -29,6 +29,7 @@ pub struct Data {
     pub samples: usize,
 }
 
+// The time and the count of samples in a data body, or what is wrong with the body.
 pub enum DataRead {
     Is(Data),
     Malformed(Fault),
@@ -52,49 +53,49 @@ fn timed_samples(order: Order, body: &[u8], width: usize) -> DataRead
     })
 }
 
-// SSNC: pairs of 16 bits.
+// Reads an SSNC body: a time, then pairs of 16-bit numbers. Malformed: 11 unless it has a time and whole samples.
 pub fn ssnc(order: Order, body: &[u8]) -> DataRead
     ensures { λ r. ⌜ dataSaid r ≡ ssnc order (now (body .entry)) ⌝ }
 {
     timed_samples(order, body, 4)
 }
 
-// SSNR: reals of 16 bits.
+// Reads an SSNR body: a time, then 16-bit reals. Malformed as SSNC.
 pub fn ssnr(order: Order, body: &[u8]) -> DataRead
     ensures { λ r. ⌜ dataSaid r ≡ ssnr order (now (body .entry)) ⌝ }
 {
     timed_samples(order, body, 2)
 }
 
-// SFNC: pairs of floats.
+// Reads an SFNC body: a time, then pairs of floats. Malformed as SSNC.
 pub fn sfnc(order: Order, body: &[u8]) -> DataRead
     ensures { λ r. ⌜ dataSaid r ≡ sfnc order (now (body .entry)) ⌝ }
 {
     timed_samples(order, body, 8)
 }
 
-// SFNR: real floats.
+// Reads an SFNR body: a time, then real floats. Malformed as SSNC.
 pub fn sfnr(order: Order, body: &[u8]) -> DataRead
     ensures { λ r. ⌜ dataSaid r ≡ sfnr order (now (body .entry)) ⌝ }
 {
     timed_samples(order, body, 4)
 }
 
-// GSNC: pairs of 16 bits, of a group.
+// Reads a GSNC body: a time, then pairs of 16-bit numbers of a group. Malformed as SSNC.
 pub fn gsnc(order: Order, body: &[u8]) -> DataRead
     ensures { λ r. ⌜ dataSaid r ≡ gsnc order (now (body .entry)) ⌝ }
 {
     timed_samples(order, body, 4)
 }
 
-// GFNC: pairs of floats, of a group.
+// Reads a GFNC body: a time, then pairs of floats of a group. Malformed as SSNC.
 pub fn gfnc(order: Order, body: &[u8]) -> DataRead
     ensures { λ r. ⌜ dataSaid r ≡ gfnc order (now (body .entry)) ⌝ }
 {
     timed_samples(order, body, 8)
 }
 
-// What the samples of a kind are.
+// What the samples of a kind are; NoSamples for a kind that is no data.
 pub fn shape_of(kind: Kind) -> Shaped
     ensures { λ r. ⌜ r ≡ shaped kind ⌝ }
 {

@@ -2,25 +2,26 @@
 ghost use mathlib.Core.Path.{_≡_};
 ghost use Rattle.body.specs.Values.{noNumber, noBand, noLevel};
 
-// A whole number.
+// A whole number that a chunk set, or 0 where it is absent.
 pub struct Held {
     pub present: bool,
     pub value: i64,
 }
 
-// A bandwidth and its offset, absent or present together.
+// A bandwidth and its offset, absent or present together. Absent, both are 0.
 pub struct BandHeld {
     pub present: bool,
     pub width: i64,
     pub offset: i64,
 }
 
-// A level.
+// A level that a chunk set, or the float with pattern 0 where it is absent.
 pub struct LevelHeld {
     pub present: bool,
     pub value: f32,
 }
 
+// An absent number.
 pub fn no_number() -> Held
     ensures { λ r. ⌜ r ≡ noNumber ⌝ }
 {
@@ -30,6 +31,7 @@ pub fn no_number() -> Held
     }
 }
 
+// An absent bandwidth.
 pub fn no_band() -> BandHeld
     ensures { λ r. ⌜ r ≡ noBand ⌝ }
 {
@@ -40,6 +42,7 @@ pub fn no_band() -> BandHeld
     }
 }
 
+// An absent level.
 pub fn no_level() -> LevelHeld
     ensures { λ r. ⌜ r ≡ noLevel ⌝ }
 {

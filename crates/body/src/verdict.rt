@@ -65,7 +65,8 @@ fn of_text(read: TextRead) -> Checked
     }
 }
 
-// Whether a body of a kind is well-formed. An unknown kind has no rule to break.
+// Whether a body of a kind is well-formed, or with which of 11 to 15 it is refused. A body of an unknown kind always
+// is.
 pub fn check(order: Order, kind: Kind, body: &[u8]) -> Checked
     ensures { λ r. ⌜ checkedSaid r tt ≡ verdict order kind (now (body .entry)) ⌝ }
 {

@@ -38,7 +38,8 @@ qOf iq place = pick iq (2 * place + 1) (2 * place)
 unfoldable pub pairsOf : {A : Type 0} → (ℕ → A) → Bool → ℕ → ℕ → ℕ → List A
 pairsOf value iq first step zero = []
 pairsOf value iq first step (suc n) =
-    pairsOf value iq first step n ++ (value (iOf iq (placeOf first step n)) ∷ value (qOf iq (placeOf first step n)) ∷ [])
+    pairsOf value iq first step n
+    ++ (value (iOf iq (placeOf first step n)) ∷ value (qOf iq (placeOf first step n)) ∷ [])
 
 -- the first n numbers
 unfoldable pub realsOf : {A : Type 0} → (ℕ → A) → ℕ → List A

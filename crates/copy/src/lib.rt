@@ -35,8 +35,8 @@ fn pattern_of(left: bool, a: u32, b: u32) -> u32
     if left { a } else { b }
 }
 
-// Two numbers that stand one after the other, read as one word. A compiler makes one load of the four bytes only where their
-// sum is used once: so each order has its own call, and what is done with the word stands in other functions.
+// Two numbers that stand one after the other, read as one word. A compiler makes one load of the four bytes only where
+// their sum is used once: so each order has its own call, and what is done with the word stands in other functions.
 fn word_at(order: Order, src: &[u8], place: usize) -> u32
     requires { ⌜ (place + 1) * 4 ≤ length (now src) ⌝ }
     ensures { λ r. ⌜ r ≡ patternAt order (now (src .entry)) place ⌝ }
@@ -54,11 +54,12 @@ fn turned(word: u32) -> u32
     word / 65536 + word % 65536 * 65536
 }
 
-// The pair at a place of the sample bytes in one word: I is its low half, Q its high. In the little order the pair's first
-// number is the low half as it stands, in the big order its second.
+// The pair at a place of the sample bytes in one word: I is its low half, Q its high. In the little order the pair's
+// first number is the low half as it stands, in the big order its second.
 fn two_at(order: Order, iq: bool, src: &[u8], place: usize) -> u32
     requires { ⌜ (place + 1) * 4 ≤ length (now src) ⌝ }
-    ensures { λ r. ⌜ (r % 65536 ≡ unsigned order (bytesAt 2 (now (src .entry)) (iOf iq place))) × (r / 65536 ≡ unsigned order (bytesAt 2 (now (src .entry)) (qOf iq place))) ⌝ }
+    ensures { λ r. ⌜ (r % 65536 ≡ unsigned order (bytesAt 2 (now (src .entry)) (iOf iq place)))
+        × (r / 65536 ≡ unsigned order (bytesAt 2 (now (src .entry)) (qOf iq place))) ⌝ }
 {
     let word = word_at(order, src, place);
     match order {
@@ -82,7 +83,9 @@ fn high(two: u32) -> i16
 // The pair at a place of the sample bytes, laid as pair j of out. A compiler makes one store of it.
 fn short_pair(order: Order, iq: bool, src: &[u8], place: usize, j: usize, out: &mut [i16])
     requires { ⌜ ((place + 1) * 4 ≤ length (now src)) × (2 * j + 1 < length (now out)) ⌝ }
-    ensures { λ _. ⌜ now (out .exit) ≡ set (set (now (out .entry)) (2 * j) (shortAt order (now (src .entry)) (iOf iq place))) (2 * j + 1) (shortAt order (now (src .entry)) (qOf iq place)) ⌝ }
+    ensures { λ _. ⌜ now (out .exit)
+        ≡ set (set (now (out .entry)) (2 * j) (shortAt order (now (src .entry)) (iOf iq place))) (2 * j + 1)
+        (shortAt order (now (src .entry)) (qOf iq place)) ⌝ }
 {
     let two = two_at(order, iq, src, place);
     let k = 2 * j;
@@ -92,7 +95,9 @@ fn short_pair(order: Order, iq: bool, src: &[u8], place: usize, j: usize, out: &
 
 fn pattern_pair(order: Order, iq: bool, src: &[u8], place: usize, j: usize, out: &mut [u32])
     requires { ⌜ ((place + 1) * 8 ≤ length (now src)) × (2 * j + 1 < length (now out)) ⌝ }
-    ensures { λ _. ⌜ now (out .exit) ≡ set (set (now (out .entry)) (2 * j) (patternAt order (now (src .entry)) (iOf iq place))) (2 * j + 1) (patternAt order (now (src .entry)) (qOf iq place)) ⌝ }
+    ensures { λ _. ⌜ now (out .exit)
+        ≡ set (set (now (out .entry)) (2 * j) (patternAt order (now (src .entry)) (iOf iq place))) (2 * j + 1)
+        (patternAt order (now (src .entry)) (qOf iq place)) ⌝ }
 {
     let a = pattern_at(order, src, 2 * place);
     let b = pattern_at(order, src, 2 * place + 1);
@@ -101,8 +106,9 @@ fn pattern_pair(order: Order, iq: bool, src: &[u8], place: usize, j: usize, out:
     out[k + 1] = pattern_of(iq, b, a);
 }
 
-// How many words of four bytes come before the first that lies at a multiple of 16 bytes, where the first word stands at a
-// place; at most so many. Vectors are loaded faster from there on: a stream is taken to lie at such an address itself.
+// How many words of four bytes come before the first that lies at a multiple of 16 bytes, where the first word stands
+// at a place; at most so many. Vectors are loaded faster from there on: a stream is taken to lie at such an address
+// itself.
 fn lead(place: usize, most: usize) -> usize
     ensures { λ r. ⌜ r ≤ most ⌝ }
 {
@@ -110,7 +116,8 @@ fn lead(place: usize, most: usize) -> usize
     if words < most { words } else { most }
 }
 
-// Pairs that stand one after the other, the first few by themselves. Without a step a compiler makes vectors of the loop.
+// Pairs that stand one after the other, the first few by themselves. Without a step a compiler makes vectors of the
+// loop.
 fn short_run(
     order: Order,
     iq: bool,
@@ -121,7 +128,8 @@ fn short_run(
     out: &mut [i16],
 )
     requires { ⌜ (pairsFit 2 (length (now src)) first 1 pairs (length (now out)) ≡ true) × (few ≤ pairs) ⌝ }
-    ensures { λ _. ⌜ now (out .exit) ≡ frontFilled (pairsOf (shortAt order (now (src .entry))) iq first 1 pairs) (now (out .entry)) ⌝ }
+    ensures { λ _. ⌜ now (out .exit)
+        ≡ frontFilled (pairsOf (shortAt order (now (src .entry))) iq first 1 pairs) (now (out .entry)) ⌝ }
 {
     let mut j = 0;
     while j < few {
@@ -144,11 +152,14 @@ fn is_big(order: Order) -> bool
     }
 }
 
-// Sixteen pairs of the big order with I first, laid as pairs j on, once all of them are read: so a compiler needs no test for
-// overlap. They are read as words of the little order, and the bytes of each half are then turned, by one shuffle for a vector.
+// Sixteen pairs of the big order with I first, laid as pairs j on, once all of them are read: so a compiler needs no
+// test for overlap. They are read as words of the little order, and the bytes of each half are then turned, by one
+// shuffle for a vector.
 fn short_block(src: &[u8], place: usize, j: usize, out: &mut [i16])
     requires { ⌜ ((place + 16) * 4 ≤ length (now src)) × (2 * (j + 16) ≤ length (now out)) ⌝ }
-    ensures { λ _. ⌜ now (out .exit) ≡ take (2 * j) (now (out .entry)) ++ frontFilled (pairsOf (shortAt Order.Big (now (src .entry))) true place 1 16) (drop (2 * j) (now (out .entry))) ⌝ }
+    ensures { λ _. ⌜ now (out .exit)
+        ≡ take (2 * j) (now (out .entry)) ++ frontFilled
+        (pairsOf (shortAt Order.Big (now (src .entry))) true place 1 16) (drop (2 * j) (now (out .entry))) ⌝ }
 {
     let mut halves = [0u16; 32];
     let mut k = 0;
@@ -166,10 +177,12 @@ fn short_block(src: &[u8], place: usize, j: usize, out: &mut [i16])
     }
 }
 
-// Pairs of the big order with I first that stand one after the other, the first few by themselves and then sixteen at a time.
+// Pairs of the big order with I first that stand one after the other, the first few by themselves and then sixteen at a
+// time.
 fn short_blocks(src: &[u8], first: usize, few: usize, pairs: usize, out: &mut [i16])
     requires { ⌜ (pairsFit 2 (length (now src)) first 1 pairs (length (now out)) ≡ true) × (few ≤ pairs) ⌝ }
-    ensures { λ _. ⌜ now (out .exit) ≡ frontFilled (pairsOf (shortAt Order.Big (now (src .entry))) true first 1 pairs) (now (out .entry)) ⌝ }
+    ensures { λ _. ⌜ now (out .exit)
+        ≡ frontFilled (pairsOf (shortAt Order.Big (now (src .entry))) true first 1 pairs) (now (out .entry)) ⌝ }
 {
     let mut j = 0;
     while j < few {
@@ -197,7 +210,8 @@ fn short_line(
     out: &mut [i16],
 )
     requires { ⌜ (pairsFit 2 (length (now src)) first 1 pairs (length (now out)) ≡ true) × (few ≤ pairs) ⌝ }
-    ensures { λ _. ⌜ now (out .exit) ≡ frontFilled (pairsOf (shortAt order (now (src .entry))) iq first 1 pairs) (now (out .entry)) ⌝ }
+    ensures { λ _. ⌜ now (out .exit)
+        ≡ frontFilled (pairsOf (shortAt order (now (src .entry))) iq first 1 pairs) (now (out .entry)) ⌝ }
 {
     if is_big(order) & iq {
         short_blocks(src, first, few, pairs, out);
@@ -206,11 +220,12 @@ fn short_line(
     short_run(order, iq, src, first, few, pairs, out);
 }
 
-// A pair of the big order with Q first, read as one number: its low half is I, which stands second, its high half Q. So one
-// shuffle turns all of the pair's bytes.
+// A pair of the big order with Q first, read as one number: its low half is I, which stands second, its high half Q. So
+// one shuffle turns all of the pair's bytes.
 fn long_at(src: &[u8], place: usize) -> u64
     requires { ⌜ (place + 1) * 8 ≤ length (now src) ⌝ }
-    ensures { λ r. ⌜ (r % 4294967296 ≡ patternAt Order.Big (now (src .entry)) (iOf false place)) × (r / 4294967296 ≡ patternAt Order.Big (now (src .entry)) (qOf false place)) ⌝ }
+    ensures { λ r. ⌜ (r % 4294967296 ≡ patternAt Order.Big (now (src .entry)) (iOf false place))
+        × (r / 4294967296 ≡ patternAt Order.Big (now (src .entry)) (qOf false place)) ⌝ }
 {
     let p = place * 8;
     num::u64_of(
@@ -231,7 +246,8 @@ fn long_at(src: &[u8], place: usize) -> u64
 // Such pairs that stand one after the other.
 fn turned_run(src: &[u8], first: usize, pairs: usize, out: &mut [u32])
     requires { ⌜ pairsFit 4 (length (now src)) first 1 pairs (length (now out)) ≡ true ⌝ }
-    ensures { λ _. ⌜ now (out .exit) ≡ frontFilled (pairsOf (patternAt Order.Big (now (src .entry))) false first 1 pairs) (now (out .entry)) ⌝ }
+    ensures { λ _. ⌜ now (out .exit)
+        ≡ frontFilled (pairsOf (patternAt Order.Big (now (src .entry))) false first 1 pairs) (now (out .entry)) ⌝ }
 {
     let mut j = 0;
     while j < pairs {
@@ -245,7 +261,8 @@ fn turned_run(src: &[u8], first: usize, pairs: usize, out: &mut [u32])
 
 fn pattern_run(order: Order, iq: bool, src: &[u8], first: usize, pairs: usize, out: &mut [u32])
     requires { ⌜ pairsFit 4 (length (now src)) first 1 pairs (length (now out)) ≡ true ⌝ }
-    ensures { λ _. ⌜ now (out .exit) ≡ frontFilled (pairsOf (patternAt order (now (src .entry))) iq first 1 pairs) (now (out .entry)) ⌝ }
+    ensures { λ _. ⌜ now (out .exit)
+        ≡ frontFilled (pairsOf (patternAt order (now (src .entry))) iq first 1 pairs) (now (out .entry)) ⌝ }
 {
     let mut j = 0;
     while j < pairs {
@@ -257,7 +274,8 @@ fn pattern_run(order: Order, iq: bool, src: &[u8], first: usize, pairs: usize, o
 // Patterns that stand one after the other, the first few by themselves.
 fn patterns(order: Order, src: &[u8], first: usize, few: usize, count: usize, out: &mut [u32])
     requires { ⌜ ((first + count) * 4 ≤ length (now src)) × (count ≤ length (now out)) × (few ≤ count) ⌝ }
-    ensures { λ _. ⌜ now (out .exit) ≡ frontFilled (realsOf (λ k. patternAt order (now (src .entry)) (first + k)) count) (now (out .entry)) ⌝ }
+    ensures { λ _. ⌜ now (out .exit)
+        ≡ frontFilled (realsOf (λ k. patternAt order (now (src .entry)) (first + k)) count) (now (out .entry)) ⌝ }
 {
     let mut j = 0;
     while j < few {
@@ -281,7 +299,8 @@ fn short_steps(
     out: &mut [i16],
 )
     requires { ⌜ pairsFit 2 (length (now src)) first step pairs (length (now out)) ≡ true ⌝ }
-    ensures { λ _. ⌜ now (out .exit) ≡ frontFilled (pairsOf (shortAt order (now (src .entry))) iq first step pairs) (now (out .entry)) ⌝ }
+    ensures { λ _. ⌜ now (out .exit)
+        ≡ frontFilled (pairsOf (shortAt order (now (src .entry))) iq first step pairs) (now (out .entry)) ⌝ }
 {
     let mut j = 0;
     while j < pairs {
@@ -300,7 +319,8 @@ fn pattern_steps(
     out: &mut [u32],
 )
     requires { ⌜ pairsFit 4 (length (now src)) first step pairs (length (now out)) ≡ true ⌝ }
-    ensures { λ _. ⌜ now (out .exit) ≡ frontFilled (pairsOf (patternAt order (now (src .entry))) iq first step pairs) (now (out .entry)) ⌝ }
+    ensures { λ _. ⌜ now (out .exit)
+        ≡ frontFilled (pairsOf (patternAt order (now (src .entry))) iq first step pairs) (now (out .entry)) ⌝ }
 {
     let mut j = 0;
     while j < pairs {
@@ -338,9 +358,9 @@ fn pairs_fit(
     pairs - 1 <= (places - 1 - first) / step
 }
 
-// The pairs of a channel: the first at the place first, each next one step places on. True where they fit and are copied,
-// I before Q whatever the packing; false where they do not, and then out is as it was. The place of src in its stream, at,
-// has no say in what is copied.
+// Copies pairs of 16-bit numbers of one channel to the front of out, I before Q whatever the packing, and answers true:
+// the first pair is number `first` of src, each next one `step` pairs on. Where src or out is too short the answer is
+// false, and out is as it was. The place of src in its stream, `at`, has a say in the speed alone.
 pub fn short_pairs(
     order: Order,
     iq: bool,
@@ -352,7 +372,9 @@ pub fn short_pairs(
     out: &mut [i16],
 ) -> bool
     ensures { λ r. ⌜ r ≡ pairsFit 2 (length (now (src .entry))) first step pairs (length (now (out .entry))) ⌝ }
-    ensures { λ r. ⌜ now (out .exit) ≡ pick r (frontFilled (pairsOf (shortAt order (now (src .entry))) iq first step pairs) (now (out .entry))) (now (out .entry)) ⌝ }
+    ensures { λ r. ⌜ now (out .exit)
+        ≡ pick r (frontFilled (pairsOf (shortAt order (now (src .entry))) iq first step pairs) (now (out .entry)))
+        (now (out .entry)) ⌝ }
 {
     if !pairs_fit(2, src.len(), first, step, pairs, out.len()) {
         return false;
@@ -366,7 +388,7 @@ pub fn short_pairs(
     true
 }
 
-// With I first the pairs are the numbers as they stand.
+// The same of 32-bit patterns. With I first the pairs are copied as they stand.
 pub fn pattern_pairs(
     order: Order,
     iq: bool,
@@ -378,7 +400,9 @@ pub fn pattern_pairs(
     out: &mut [u32],
 ) -> bool
     ensures { λ r. ⌜ r ≡ pairsFit 4 (length (now (src .entry))) first step pairs (length (now (out .entry))) ⌝ }
-    ensures { λ r. ⌜ now (out .exit) ≡ pick r (frontFilled (pairsOf (patternAt order (now (src .entry))) iq first step pairs) (now (out .entry))) (now (out .entry)) ⌝ }
+    ensures { λ r. ⌜ now (out .exit)
+        ≡ pick r (frontFilled (pairsOf (patternAt order (now (src .entry))) iq first step pairs) (now (out .entry)))
+        (now (out .entry)) ⌝ }
 {
     if !pairs_fit(4, src.len(), first, step, pairs, out.len()) {
         return false;
@@ -403,10 +427,13 @@ pub fn pattern_pairs(
     true
 }
 
-// The first numbers, one for each sample.
+// Copies the first `count` 16-bit numbers of src to the front of out, and answers true. Where src or out is too short
+// the answer is false, and out is as it was. The place of src in its stream, `at`, has a say in the speed alone.
 pub fn short_reals(order: Order, at: usize, src: &[u8], count: usize, out: &mut [i16]) -> bool
     ensures { λ r. ⌜ r ≡ realsFit 2 (length (now (src .entry))) count (length (now (out .entry))) ⌝ }
-    ensures { λ r. ⌜ now (out .exit) ≡ pick r (frontFilled (realsOf (shortAt order (now (src .entry))) count) (now (out .entry))) (now (out .entry)) ⌝ }
+    ensures { λ r. ⌜ now (out .exit)
+        ≡ pick r (frontFilled (realsOf (shortAt order (now (src .entry))) count) (now (out .entry)))
+        (now (out .entry)) ⌝ }
 {
     if src.len() / 2 < count {
         return false;
@@ -422,9 +449,12 @@ pub fn short_reals(order: Order, at: usize, src: &[u8], count: usize, out: &mut 
     true
 }
 
+// The same of 32-bit patterns.
 pub fn pattern_reals(order: Order, at: usize, src: &[u8], count: usize, out: &mut [u32]) -> bool
     ensures { λ r. ⌜ r ≡ realsFit 4 (length (now (src .entry))) count (length (now (out .entry))) ⌝ }
-    ensures { λ r. ⌜ now (out .exit) ≡ pick r (frontFilled (realsOf (patternAt order (now (src .entry))) count) (now (out .entry))) (now (out .entry)) ⌝ }
+    ensures { λ r. ⌜ now (out .exit)
+        ≡ pick r (frontFilled (realsOf (patternAt order (now (src .entry))) count) (now (out .entry)))
+        (now (out .entry)) ⌝ }
 {
     if src.len() / 4 < count {
         return false;

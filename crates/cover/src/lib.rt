@@ -65,7 +65,8 @@ fn in_order(n: usize, unit: usize, offsets: [u32; 16]) -> bool
     true
 }
 
-// The test where there are pairs and the channels share them evenly: the n offsets are the units 0 to n - 1, in some order.
+// The test where there are pairs and the channels share them evenly: the n offsets are the units 0 to n - 1, in some
+// order.
 fn fills(pairs: usize, n: usize, increment: usize, offsets: [u32; 16]) -> bool
     requires { ⌜ (packs n increment ≡ true) × (pairs % n ≡ 0) × (0 < pairs) ⌝ }
     ensures { λ r. ⌜ r ≡ covers n increment (λ c. getD offsets c 0) pairs ⌝ }
@@ -91,7 +92,8 @@ fn fills(pairs: usize, n: usize, increment: usize, offsets: [u32; 16]) -> bool
     true
 }
 
-// Whether the packing is allowed and each pair is that of exactly one sample. Where there are no pairs, nothing is left out.
+// Whether a group's packing is allowed (1 to 16 channels, increment 1 or n) and covers its pairs: as many samples for
+// each channel, each pair that of exactly one of them. No pairs are covered by any packing that is allowed.
 pub fn covers(pairs: usize, n: usize, increment: usize, offsets: [u32; 16]) -> bool
     ensures { λ r. ⌜ r ≡ groupCovers pairs n increment offsets ⌝ }
 {

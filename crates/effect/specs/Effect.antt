@@ -34,15 +34,21 @@ met a s = record { says = judged a; shown = noState; after = s }
 
 -- a data chunk: a ready one shows values with the start mark and clears the mark, any other shows nothing and sets it
 abbrev pub dataEffect : Says → Values → State → Effect
-dataEffect says shows s = record { says = says; shown = pick (isReady says) (withValues s shows) noState; after = withMark s (pick (isReady says) false true) }
+dataEffect says shows s = record {
+  says = says;
+  shown = pick (isReady says) (withValues s shows) noState;
+  after = withMark s (pick (isReady says) false true);
+}
 
 -- data of a shape: the values decide whether it is ready, and are what it shows, those of a group as a group shows them
 abbrev pub sampled : Shape → Answer Data → State → Effect
 sampled shape a s = dataEffect (saysOf shape a (s .values)) (pick (ofGroup shape) (inGroup (s .values)) (s .values)) s
 
--- by the row of its kind: it sets its own value, or removes it where it is malformed; sets the mark; changes nothing; is data
+-- by the row of its kind: it sets its own value, or removes it where it is malformed; sets the mark; changes nothing;
+-- is data
 abbrev pub effectBy : Row → Order → List ℕ → State → Effect
-effectBy (sets x hold read) o body s = met (read o body) (withValues s (setIn x (orElse (none x) hold (read o body)) (s .values)))
+effectBy (sets x hold read) o body s =
+    met (read o body) (withValues s (setIn x (orElse (none x) hold (read o body)) (s .values)))
 effectBy (marks read) o body s = met (read o body) (withMark s (marked (read o body) (s .mark)))
 effectBy (leaves read) o body s = met (read o body) s
 effectBy (samples shape) o body s = sampled shape (dataOf shape o body) s

@@ -20,8 +20,8 @@ use Rattle.effect.specs.Says.{Says, ok, unknown, bad, waits, ready}
 use Rattle.effect.specs.declared.ask.Asked.{Asked}
 use Rattle.effect.specs.declared.ask.Asked.the-variants.{Ready, NotReady}
 
--- a malformed chunk has its number; a well-formed one waits for the first of packing, sample rate and float full scale that
--- is lacking, and is ready where none is
+-- a malformed chunk has its number; a well-formed one waits for the first of packing, sample rate and float full scale
+-- that is lacking, and is ready where none is
 abbrev pub dataSays : Answer Data → Bool → Bool → Bool → Says
 dataSays (refuses n) packed rated scaled = bad n
 dataSays (gives d) packed rated scaled =
@@ -35,15 +35,17 @@ covering g (bad n) = bad n
 covering g (waits n t) = waits n t
 covering g (ready d) = pick (groupCovers (d .samples) (g .n) (g .increment) (g .offsets)) (ready d) (bad 16)
 
--- What is said of a data chunk with these values, by the shape of its samples. Every shape needs the sample rate; pairs need the
--- packing too, a group's the group packing, and floats their full scale. What a shape does not need, it does not lack.
+-- What is said of a data chunk with these values, by the shape of its samples. Every shape needs the sample rate; pairs
+-- need the packing too, a group's the group packing, and floats their full scale. What a shape does not need, it does
+-- not lack.
 abbrev pub saysOf : Shape → Answer Data → Values → Says
 saysOf ShortPairs a v = dataSays a (v .packing .present) (v .rate .present) true
 saysOf ShortReals a v = dataSays a true (v .rate .present) true
 saysOf ShortGroup a v = covering (v .group) (dataSays a (ltb 0 (v .group .n)) (v .rate .present) true)
 saysOf FloatPairs a v = dataSays a (v .packing .present) (v .rate .present) (v .«float_scale» .present)
 saysOf FloatReals a v = dataSays a true (v .rate .present) (v .«float_scale» .present)
-saysOf FloatGroup a v = covering (v .group) (dataSays a (ltb 0 (v .group .n)) (v .rate .present) (v .«float_scale» .present))
+saysOf FloatGroup a v =
+    covering (v .group) (dataSays a (ltb 0 (v .group .n)) (v .rate .present) (v .«float_scale» .present))
 
 abbrev pub ofGroup : Shape → Bool
 ofGroup ShortPairs = false
@@ -73,7 +75,8 @@ abbrev pub gainsOf : ℕ → GroupGains → GroupGains
 gainsOf n g = pick (eqb (g .n) n) g noGains
 
 abbrev pub inGroup : Values → Values
-inGroup v = setIn gains (gainsOf (v .group .n) (v .gains)) (setIn frequencies (hertzOf (v .group .n) (v .frequencies)) v)
+inGroup v =
+    setIn gains (gainsOf (v .group .n) (v .gains)) (setIn frequencies (hertzOf (v .group .n) (v .frequencies)) v)
 
 -- the data of a chunk that is ready; of any other there is none to copy: number 35
 abbrev pub readyData : Says → Answer Data

@@ -12,7 +12,7 @@ use body::Kind;
 use num::Order;
 use state::State;
 
-// The data to copy, where the chunk is ready.
+// The time and count of samples of a ready chunk, or that the chunk is not ready.
 pub enum Asked {
     Ready(Data),
     NotReady,
@@ -32,7 +32,7 @@ fn answer(judged: Judged) -> Asked
     }
 }
 
-// The data of a chunk that would be ready with this state.
+// Whether a chunk is ready data in a state: its time and count of samples where it is. Nothing takes effect.
 pub fn ready_data(order: Order, kind: Kind, body: &[u8], was: State) -> Asked
     ensures { λ r. ⌜ askedSaid r ≡ readyData (effect order kind (now (body .entry)) was .says) ⌝ }
 {

@@ -165,7 +165,8 @@ fn iqdc(order: Order, body: &[u8], was: State) -> Taken
     met(value::of_checked(checked), was.with_mark(mark))
 }
 
-// What a chunk says, shows and leaves.
+// What a chunk does in a state: it sets its value, or removes it where the chunk is malformed; sets the start mark; or
+// is data, which is ready or waits. A ready chunk shows the state, and clears the mark.
 pub fn take(order: Order, kind: Kind, body: &[u8], was: State) -> Taken
     ensures { λ r. ⌜ IsEffect r (effect order kind (now (body .entry)) was) ⌝ }
 {

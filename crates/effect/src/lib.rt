@@ -52,8 +52,8 @@ pub enum Verdict {
 }
 
 impl Verdict {
-    // The number of what is wrong, 11 to 16, or of what is lacking, 21 to 23; 0 for a chunk that is well-formed, unknown or
-    // ready.
+    // The number of what is wrong, 11 to 16, or of what is lacking, 21 to 23; 0 for a chunk that is well-formed,
+    // unknown or ready.
     pub fn number(self) -> u32
         ensures { λ r. ⌜ r ≡ saysNumber (verdictSaid self) ⌝ }
     {
@@ -68,7 +68,8 @@ impl Verdict {
     }
 }
 
-// The verdict; the state that a ready chunk shows, empty where nothing is shown; the state afterwards.
+// What a chunk does: the verdict on it; the state that it shows, which is empty unless it is ready data; and the state
+// after it.
 pub struct Taken {
     pub verdict: Verdict,
     pub shown: State,

@@ -124,7 +124,8 @@ fn shows(ready: bool, group: bool, was: State) -> State
 
 // A ready chunk shows values with the start mark, and clears the mark; any other shows nothing and sets it.
 pub(crate) fn data_effect(judged: Judged, was: State) -> Taken
-    ensures { λ r. ⌜ IsEffect r (dataEffect (verdictSaid (judged .verdict)) (pick (judged .group) (inGroup (was .values)) (was .values)) was) ⌝ }
+    ensures { λ r. ⌜ IsEffect r (dataEffect (verdictSaid (judged .verdict))
+        (pick (judged .group) (inGroup (was .values)) (was .values)) was) ⌝ }
 {
     let verdict = judged.verdict;
     let ready = is_ready(verdict);
@@ -136,7 +137,8 @@ pub(crate) fn data_effect(judged: Judged, was: State) -> Taken
     }
 }
 
-// A data chunk of one channel: whether it has the packing, the sample rate and the float full scale, where it needs them.
+// A data chunk of one channel: whether it has the packing, the sample rate and the float full scale, where it needs
+// them.
 pub(crate) fn single(read: DataRead, packed: bool, rated: bool, scaled: bool) -> Judged
     ensures { λ r. ⌜ (verdictSaid (r .verdict) ≡ dataSays (dataSaid read) packed rated scaled) × (r .group ≡ false) ⌝ }
 {
@@ -148,7 +150,9 @@ pub(crate) fn single(read: DataRead, packed: bool, rated: bool, scaled: bool) ->
 
 // A data chunk of a group: whether it has the sample rate, and the float full scale where it needs it.
 pub(crate) fn grouped(read: DataRead, group: GroupPacking, rated: bool, scaled: bool) -> Judged
-    ensures { λ r. ⌜ (verdictSaid (r .verdict) ≡ covering group (dataSays (dataSaid read) (ltb 0 (group .n)) rated scaled)) × (r .group ≡ true) ⌝ }
+    ensures { λ r. ⌜ (verdictSaid (r .verdict) ≡ covering group
+        (dataSays (dataSaid read) (ltb 0 (group .n)) rated scaled))
+        × (r .group ≡ true) ⌝ }
 {
     let verdict = verdict_of(read, 0 < group.n, rated, scaled);
     Judged {

@@ -65,8 +65,8 @@ begins Data well = false
 begins Other well = false
 
 -- A chunk after the first, by its part, by whether the header was ended before it, and by whether it is well-formed:
--- the number of its refusal, or whether the header is ended after it. Data is refused before the header's end with 42, a
--- second header with 43, well-formed or not. Only a well-formed end ends the header.
+-- the number of its refusal, or whether the header is ended after it. Data is refused before the header's end with 42,
+-- a second header with 43, well-formed or not. Only a well-formed end ends the header.
 abbrev pub passes : Part → Bool → Bool → Answer Bool
 passes Data ended well = pick ended (gives true) (refuses 42)
 passes Header ended well = refuses 43
@@ -78,8 +78,8 @@ abbrev pub thenRest : ℕ → Answer Bool → (Bool → FileAnswer) → FileAnsw
 thenRest place (gives ended) rest = rest ended
 thenRest place (refuses number) rest = refused number place
 
--- The frames from a place on, n items lying before it, and the header ended or not. What is no chunk is refused with 44,
--- the end of the file before the header's end with 42.
+-- The frames from a place on, n items lying before it, and the header ended or not. What is no chunk is refused with
+-- 44, the end of the file before the header's end with 42.
 unfoldable pub fileFrom : Order → ℕ → ℕ → Bool → List Frame → FileAnswer
 fileFrom o n place ended [] = pick ended (good n) (refused 42 place)
 fileFrom o n place ended (f ∷ rest) =
@@ -99,7 +99,8 @@ fileBy o [] = refused 41 0
 fileBy o (f ∷ rest) =
     ofChunk (refused 41 0)
     (λ code body.
-    pick (begins (partOf (kindOf code)) (wellFormed o code body)) (fileFrom o 1 (headerSize + length body) false rest) (refused 41 0))
+    pick (begins (partOf (kindOf code)) (wellFormed o code body))
+    (fileFrom o 1 (headerSize + length body) false rest) (refused 41 0))
     f
 
 -- what the check of a file says

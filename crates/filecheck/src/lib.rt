@@ -10,7 +10,7 @@ use body::Kind;
 use frame::Ahead;
 use num::Order;
 
-// What the check of a file says.
+// What the check of a file answers.
 pub enum FileChecked {
     // A good file, with the number of its items.
     Good(usize),
@@ -77,7 +77,8 @@ fn well_formed(order: Order, kind: Kind, body: &[u8]) -> bool
 
 // The first item: the file has to begin with a well-formed SOFH.
 fn begin(order: Order, s: &[u8]) -> Turn
-    ensures { λ r. ⌜ (turnSaid order (now (s .entry)) 0 r ≡ fileOf order (now (s .entry))) × forward 0 (length (now (s .entry))) r ⌝ }
+    ensures { λ r. ⌜ (turnSaid order (now (s .entry)) 0 r ≡ fileOf order (now (s .entry)))
+        × forward 0 (length (now (s .entry))) r ⌝ }
 {
     let Ahead::Chunk { code, size } = frame::ahead_of(order, s, 0) else {
         return Turn::Stops(FileChecked::NoHeader);
@@ -148,7 +149,9 @@ fn rest(order: Order, s: &[u8], from: usize, already: bool) -> FileChecked
     }
 }
 
-// The check of a whole file, whose order is given.
+// Checks a whole file, whose order is given: a well-formed SOFH at its start, a well-formed EOFH before any data, no
+// second SOFH, and whole chunks to the end. Good has the number of items. Refused: NoHeader 41 first; then what comes
+// first in the file of HeaderNotEnded 42, SecondHeader 43 and NotAChunk 44, each with its place.
 pub fn check(order: Order, s: &[u8]) -> FileChecked
     ensures { λ r. ⌜ fileSaid r ≡ fileOf order (now (s .entry)) ⌝ }
 {

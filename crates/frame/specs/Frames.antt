@@ -42,7 +42,8 @@ width (chunk type body) = headerSize + length body
 width (skipped bytes) = length bytes
 width (unfinished bytes) = length bytes
 
--- the frame at the front, by what stands there: a complete chunk, an unfinished end, or the stretch up to where a search stops
+-- the frame at the front, by what stands there: a complete chunk, an unfinished end, or the stretch up to where a
+-- search stops
 abbrev pub frameAt : At → ℕ → List ℕ → Frame
 frameAt (Complete code size) g l = chunk code (take size (drop headerSize l))
 frameAt Unfinished g l = unfinished l

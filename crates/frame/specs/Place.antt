@@ -53,8 +53,8 @@ sizeIn o l = word o (drop 8 l)
 abbrev pub goodSize : ℕ → Bool
 goodSize n = both (leb n sizeLimit) (eqb (n % 4) 0)
 
--- No sync; or unfinished, fewer than 12 bytes being left; or bad, the size not good; or unfinished, the body not whole; or
--- complete.
+-- No sync; or unfinished, fewer than 12 bytes being left; or bad, the size not good; or unfinished, the body not whole;
+-- or complete.
 unfoldable pub shows : Order → List ℕ → At
 shows o l =
     pick (starts (syncBytes o) l)

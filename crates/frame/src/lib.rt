@@ -11,22 +11,22 @@ ghost use Rattle.frame.specs.Inner.Free.{Free};
 ghost use Rattle.frame.specs.Place.{syncBytes, starts, goodSize, shows, searchFrom, orderOf, orderSaid};
 use num::Order;
 
-// Each chunk begins with this number.
+// The sync word, with which each chunk begins.
 pub const SYNC: u32 = 0xA1B2C3D4;
 
 // The sync word of the little order, read in the big one.
 const SYNC_TURNED: u32 = 0xD4C3B2A1;
 
-// A header: sync word, type and size, four bytes each.
+// The bytes of a header: sync word, type and size, four each.
 pub const HEADER: usize = 12;
 
-// A data chunk up to its samples: the header, and a time of eight bytes.
+// The bytes of a data chunk before its samples: the header, and a time of eight.
 pub const FRONT: usize = 20;
 
-// The largest body.
+// The most bytes that a body may have.
 pub const LIMIT: usize = 69632;
 
-// What a stream shows at a place. The code is the chunk's type as a number.
+// What stands at a place of a stream. The code is the chunk's type as a number, the size that of its body.
 pub enum At {
     NoSync,
     Bad,
@@ -45,13 +45,13 @@ pub enum Ahead {
     Chunk { code: u32, size: usize },
 }
 
-// The place where a search stopped, or that there was none.
+// Where a search stopped, or that it found nothing.
 pub enum Found {
     Place(usize),
     Nothing,
 }
 
-// The order of a stream, or that neither sync word stands in it.
+// The byte order of a stream, or that it has no sync word.
 pub enum OrderFound {
     Is(Order),
     // Number 1.
@@ -70,7 +70,7 @@ impl OrderFound {
     }
 }
 
-// Whether a body may have this many bytes.
+// Whether a body may have this many bytes: up to the limit, and a multiple of 4.
 pub fn good_size(size: usize) -> bool
     ensures { λ r. ⌜ r ≡ goodSize size ⌝ }
 {
@@ -97,7 +97,7 @@ fn headed(order: Order, s: &[u8], place: usize) -> At
     At::Complete { code, size }
 }
 
-// What the stream shows at a place; no sync at the end and past it.
+// What stands at a place of the stream. At the end and past it the answer is NoSync.
 pub fn look(order: Order, s: &[u8], place: usize) -> At
     ensures { λ r. ⌜ r ≡ shows order (drop place (now (s .entry))) ⌝ }
 {
@@ -113,7 +113,8 @@ pub fn look(order: Order, s: &[u8], place: usize) -> At
     headed(order, s, place)
 }
 
-// What is ahead of a place; the end, at the end and past it. Whoever goes through a stream asks this at each place.
+// What is ahead of a place: the end, bytes that are no chunk, a chunk that breaks off, or a whole chunk. At the end and
+// past it the answer is End. Reading, counting, copying and the check of a file ask this at each place.
 pub fn ahead_of(order: Order, s: &[u8], place: usize) -> Ahead
     ensures { λ r. ⌜ r ≡ aheadOf order (drop place (now (s .entry))) ⌝ }
 {
@@ -127,8 +128,8 @@ pub fn ahead_of(order: Order, s: &[u8], place: usize) -> Ahead
     }
 }
 
-// Whether no place of the n from p on has the bytes a and b in front. The loop has no early way out, so that many bytes are
-// compared at a time.
+// Whether no place of the n from p on has the bytes a and b in front. The loop has no early way out, so that many bytes
+// are compared at a time.
 fn free_run(s: &[u8], p: usize, n: usize, a: u8, b: u8) -> bool
     requires { ⌜ p + n < length (now s) ⌝ }
     ensures { λ r. ⌜ (r ≡ true → Free (now (s .entry)) a b p (p + n)) ⌝ }
@@ -214,8 +215,8 @@ fn pass(s: &[u8], from: usize, a: u8, b: u8) -> usize
     blocks(s, p, a, b)
 }
 
-// The next place where the sync word may stand, where its first k bytes stand at p: its bytes differ, so that none begins
-// within the whole word.
+// The next place where the sync word may stand, where its first k bytes stand at p: its bytes differ, so that none
+// begins within the whole word.
 fn beyond(p: usize, k: usize) -> usize
     requires { ⌜ p + 4 < 2 ^ 64 ⌝ }
     ensures { λ r. ⌜ r ≡ pick (eqb k 4) (p + 4) (p + 1) ⌝ }
@@ -223,7 +224,8 @@ fn beyond(p: usize, k: usize) -> usize
     if k == 4 { p + 4 } else { p + 1 }
 }
 
-// The search: the first place from `from` on that is complete or unfinished, or that there is none.
+// Looks for a chunk: the first place from `from` on where one is complete or unfinished. Nothing where there is none,
+// and where `from` lies past the end.
 pub fn search(order: Order, s: &[u8], from: usize) -> Found
     ensures { λ r. ⌜ r ≡ searchFrom order (now (s .entry)) from ⌝ }
 {
@@ -259,7 +261,8 @@ pub fn search(order: Order, s: &[u8], from: usize) -> Found
     }
 }
 
-// The order of the stream: the lowest place where a sync word of either order stands decides.
+// Finds the byte order of a stream: that of the first sync word in it, whichever of the two orders this has. Neither,
+// number 1, where no sync word of either order stands in it.
 pub fn find_order(s: &[u8]) -> OrderFound
     ensures { λ r. ⌜ orderSaid r ≡ orderOf (now (s .entry)) ⌝ }
 {

@@ -67,7 +67,8 @@ fn fill_longs(order: Order, xs: &[i64], out: &mut [u8])
     }
 }
 
-// Signed numbers of 16 bits.
+// Lays signed numbers of 16 bits into out, one after the other from the place `at` on, and answers true. Where they do
+// not all fit the answer is false, and out is as it was.
 pub fn shorts(order: Order, xs: &[i16], out: &mut [u8], at: usize) -> bool
     ensures said { λ r. ⌜ r ≡ fits (now (out .entry)) at (runOf (int16 order) (now (xs .entry))) ⌝ }
     ensures left { λ _. ⌜ now (out .exit) ≡ overlaid (now (out .entry)) at (runOf (int16 order) (now (xs .entry))) ⌝ }
@@ -80,10 +81,11 @@ pub fn shorts(order: Order, xs: &[i16], out: &mut [u8], at: usize) -> bool
     true
 }
 
-// Unsigned numbers of 32 bits.
+// The same of unsigned numbers of 32 bits.
 pub fn words(order: Order, xs: &[u32], out: &mut [u8], at: usize) -> bool
     ensures said { λ r. ⌜ r ≡ fits (now (out .entry)) at (runOf (bytesOf order 4) (now (xs .entry))) ⌝ }
-    ensures left { λ _. ⌜ now (out .exit) ≡ overlaid (now (out .entry)) at (runOf (bytesOf order 4) (now (xs .entry))) ⌝ }
+    ensures left { λ _. ⌜ now (out .exit)
+        ≡ overlaid (now (out .entry)) at (runOf (bytesOf order 4) (now (xs .entry))) ⌝ }
 {
     if !crate::room(out.len(), at, 4, xs.len()) {
         return false;
@@ -93,7 +95,7 @@ pub fn words(order: Order, xs: &[u32], out: &mut [u8], at: usize) -> bool
     true
 }
 
-// Signed numbers of 64 bits.
+// The same of signed numbers of 64 bits.
 pub fn longs(order: Order, xs: &[i64], out: &mut [u8], at: usize) -> bool
     ensures said { λ r. ⌜ r ≡ fits (now (out .entry)) at (runOf (int64 order) (now (xs .entry))) ⌝ }
     ensures left { λ _. ⌜ now (out .exit) ≡ overlaid (now (out .entry)) at (runOf (int64 order) (now (xs .entry))) ⌝ }

@@ -57,7 +57,8 @@ stretchLine head place n = head ++ numberWord place ++ numberWord n ++ newline
 -- a chunk: its place, name, size and verdict, after chunk
 unfoldable pub chunkLine : ℕ → ℕ → ℕ → Says → List ℕ
 chunkLine place code size says =
-    (0x63 ∷ 0x68 ∷ 0x75 ∷ 0x6E ∷ 0x6B ∷ []) ++ numberWord place ++ nameBy (kindOf code) code ++ numberWord size ++ verdictWord says ++ newline
+    (0x63 ∷ 0x68 ∷ 0x75 ∷ 0x6E ∷ 0x6B ∷ []) ++ numberWord place ++ nameBy (kindOf code) code ++ numberWord size
+    ++ verdictWord says ++ newline
 
 -- the line of an item, and no byte where nothing is left
 abbrev pub itemLine : Item → List ℕ

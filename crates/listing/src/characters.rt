@@ -56,8 +56,8 @@ fn byte_at(s: &[u8], at: usize) -> u8
     if at < s.len() { s[at] } else { 0 }
 }
 
-// The piece at a place of a text: a control character or the backslash by its number, any other byte as it stands. No piece at
-// the end or past it: no byte is shown, for none of the text.
+// The piece at a place of a text: a control character or the backslash by its number, any other byte as it stands. No
+// piece at the end or past it: no byte is shown, for none of the text.
 pub fn piece_at(s: &[u8], at: usize) -> Piece
     ensures { λ r. ⌜ r ≡ firstPiece (drop at (now (s .entry))) ⌝ }
 {

@@ -13,7 +13,7 @@ use crate::words::numbered;
 use num::Order;
 use reader::Item;
 
-// The order and the number of bytes.
+// The first line of a listing: `pxgf`, the order and the number of bytes.
 pub fn first_line(order: Order, n: usize) -> Text
     ensures { λ r. ⌜ r ≡ textOf (firstLine order n) ⌝ }
 {
@@ -23,7 +23,7 @@ pub fn first_line(order: Order, n: usize) -> Text
     }
 }
 
-// The line of what a step gives; no byte for the end and for a refusal.
+// The line of an item: `skip`, `cut` or `chunk`. No byte for End and for a refusal.
 pub fn item_line(item: Item) -> Text
     ensures { λ r. ⌜ r ≡ textOf (answerLine (itemSaid item)) ⌝ }
 {
@@ -40,21 +40,21 @@ pub fn item_line(item: Item) -> Text
     }
 }
 
-// The number of items.
+// The last line of a listing: `end` and the number of items.
 pub fn last_line(count: usize) -> Text
     ensures { λ r. ⌜ r ≡ textOf (lastLine count) ⌝ }
 {
     count_line(b"end", count)
 }
 
-// There are more bytes than are read.
+// The line `long`, for a recording with more bytes than are listed.
 pub fn long_line() -> Text
     ensures { λ r. ⌜ r ≡ textOf longLine ⌝ }
 {
     word(b"long\n")
 }
 
-// There is no sync word.
+// The line `none`, for a recording without a sync word.
 pub fn none_line() -> Text
     ensures { λ r. ⌜ r ≡ textOf noneLine ⌝ }
 {

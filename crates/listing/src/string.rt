@@ -4,7 +4,7 @@ ghost use mathlib.Core.List.{[]};
 ghost use Rattle.listing.specs.Text.{textOf, shown};
 ghost use Rattle.listing.specs.Inner.Text.{push, joins};
 
-// A text is the first len bytes. The functions of this crate leave 0 at every place past them.
+// A text by value: the first len of its bytes. The functions of this crate leave 0 in the places behind them.
 pub struct Text {
     pub bytes: [u8; 96],
     pub len: usize,
@@ -49,7 +49,7 @@ fn extended(t: Text, s: &[u8]) -> Text
     text
 }
 
-// The text of some bytes, those past the first 96 dropped.
+// The text of some bytes; of more than 96 the first 96.
 pub fn word(s: &[u8]) -> Text
     ensures { λ r. ⌜ r ≡ textOf (now (s .entry)) ⌝ }
 {

@@ -17,7 +17,7 @@ pub fn newline() -> Text
     word(b"\n")
 }
 
-// A number.
+// A count in decimal, after a space.
 pub fn number(n: usize) -> Text
     ensures { λ r. ⌜ r ≡ textOf (numberWord n) ⌝ }
 {
@@ -31,7 +31,7 @@ pub(crate) fn numbered(head: &[u8], n: usize) -> Text
     joined(word(head), number(n))
 }
 
-// An integer.
+// An integer in decimal, after a space.
 pub fn decimal(n: i64) -> Text
     ensures { λ r. ⌜ r ≡ textOf (integerWord n) ⌝ }
 {
@@ -42,14 +42,14 @@ pub fn decimal(n: i64) -> Text
     number(n as usize)
 }
 
-// A pattern of 32 bits.
+// A pattern of 32 bits in eight hex digits, after a space.
 pub fn hex_word(p: u32) -> Text
     ensures { λ r. ⌜ r ≡ textOf (hexWord p) ⌝ }
 {
     joined(word(b" "), eight(p))
 }
 
-// The head of a line of the dump.
+// The head of a line of the dump, after two spaces.
 pub fn label(which: Label) -> Text
     ensures { λ r. ⌜ r ≡ textOf (headOf which) ⌝ }
 {

@@ -60,7 +60,7 @@ fn swap64(v: u64) -> u64
         + y / 256 % 256
 }
 
-// The unsigned number that stands as these bytes.
+// The unsigned number that two bytes stand for, in an order.
 pub fn u16_of(order: Order, bytes: [u8; 2]) -> u16
     ensures { λ r. ⌜ r ≡ unsigned order bytes ⌝ }
 {
@@ -71,6 +71,7 @@ pub fn u16_of(order: Order, bytes: [u8; 2]) -> u16
     }
 }
 
+// The unsigned number that four bytes stand for.
 pub fn u32_of(order: Order, bytes: [u8; 4]) -> u32
     ensures { λ r. ⌜ r ≡ unsigned order bytes ⌝ }
 {
@@ -81,6 +82,7 @@ pub fn u32_of(order: Order, bytes: [u8; 4]) -> u32
     }
 }
 
+// The unsigned number that eight bytes stand for.
 pub fn u64_of(order: Order, bytes: [u8; 8]) -> u64
     ensures { λ r. ⌜ r ≡ unsigned order bytes ⌝ }
 {
@@ -100,14 +102,14 @@ pub fn u64_of(order: Order, bytes: [u8; 8]) -> u64
     }
 }
 
-// The signed number that stands as these bytes, in two's complement.
+// The signed number that two bytes stand for, in two's complement.
 pub fn i16_of(order: Order, bytes: [u8; 2]) -> i16
     ensures { λ r. ⌜ r ≡ signed w16 order bytes ⌝ }
 {
     signed16(u16_of(order, bytes))
 }
 
-// The number that stands at a place of s, 0 where too few bytes are left there.
+// The unsigned number of four bytes at a place of s; 0 where fewer bytes are left there.
 pub fn u32_at(order: Order, s: &[u8], place: usize) -> u32
     ensures { λ r. ⌜ r ≡ unsignedAt 4 order (now (s .entry)) place ⌝ }
 {
@@ -120,6 +122,7 @@ pub fn u32_at(order: Order, s: &[u8], place: usize) -> u32
     u32_of(order, [s[place], s[place + 1], s[place + 2], s[place + 3]])
 }
 
+// The unsigned number of eight bytes at a place of s; 0 where fewer bytes are left there.
 pub fn u64_at(order: Order, s: &[u8], place: usize) -> u64
     ensures { λ r. ⌜ r ≡ unsignedAt 8 order (now (s .entry)) place ⌝ }
 {
@@ -144,19 +147,21 @@ pub fn u64_at(order: Order, s: &[u8], place: usize) -> u64
     )
 }
 
+// The signed number of four bytes at a place of s; 0 where fewer bytes are left there.
 pub fn i32_at(order: Order, s: &[u8], place: usize) -> i32
     ensures { λ r. ⌜ r ≡ toZ w32 (unsignedAt 4 order (now (s .entry)) place) ⌝ }
 {
     signed32(u32_at(order, s, place))
 }
 
+// The signed number of eight bytes at a place of s; 0 where fewer bytes are left there.
 pub fn i64_at(order: Order, s: &[u8], place: usize) -> i64
     ensures { λ r. ⌜ r ≡ toZ w64 (unsignedAt 8 order (now (s .entry)) place) ⌝ }
 {
     signed64(u64_at(order, s, place))
 }
 
-// The bytes as which a number stands.
+// The two bytes of an unsigned number, in an order.
 pub fn u16_bytes(order: Order, x: u16) -> [u8; 2]
     ensures { λ r. ⌜ r ≡ bytesOf order 2 x ⌝ }
 {
@@ -168,6 +173,7 @@ pub fn u16_bytes(order: Order, x: u16) -> [u8; 2]
     }
 }
 
+// The four bytes of an unsigned number.
 pub fn u32_bytes(order: Order, x: u32) -> [u8; 4]
     ensures { λ r. ⌜ r ≡ bytesOf order 4 x ⌝ }
 {
@@ -182,6 +188,7 @@ pub fn u32_bytes(order: Order, x: u32) -> [u8; 4]
     }
 }
 
+// The eight bytes of an unsigned number.
 pub fn u64_bytes(order: Order, x: u64) -> [u8; 8]
     ensures { λ r. ⌜ r ≡ bytesOf order 8 x ⌝ }
 {
@@ -202,31 +209,35 @@ pub fn u64_bytes(order: Order, x: u64) -> [u8; 8]
     }
 }
 
+// The two bytes of a signed number, in two's complement.
 pub fn i16_bytes(order: Order, x: i16) -> [u8; 2]
     ensures { λ r. ⌜ r ≡ bytesOf order 2 (ofZ w16 x) ⌝ }
 {
     u16_bytes(order, pattern16(x))
 }
 
+// The four bytes of a signed number.
 pub fn i32_bytes(order: Order, x: i32) -> [u8; 4]
     ensures { λ r. ⌜ r ≡ bytesOf order 4 (ofZ w32 x) ⌝ }
 {
     u32_bytes(order, pattern32(x))
 }
 
+// The eight bytes of a signed number.
 pub fn i64_bytes(order: Order, x: i64) -> [u8; 8]
     ensures { λ r. ⌜ r ≡ bytesOf order 8 (ofZ w64 x) ⌝ }
 {
     u64_bytes(order, pattern64(x))
 }
 
-// The signed number whose pattern, in two's complement, is x. It compiles to nothing.
+// The signed number whose 16 bits, in two's complement, are those of x. It compiles to nothing.
 pub fn signed16(x: u16) -> i16
     ensures { λ r. ⌜ r ≡ toZ w16 x ⌝ }
 {
     if x < 0x8000 { x as i16 } else { !((!x) as i16) }
 }
 
+// The same of 32 bits.
 pub fn signed32(x: u32) -> i32
     ensures { λ r. ⌜ r ≡ toZ w32 x ⌝ }
 {
@@ -237,6 +248,7 @@ pub fn signed32(x: u32) -> i32
     }
 }
 
+// The same of 64 bits.
 pub fn signed64(x: u64) -> i64
     ensures { λ r. ⌜ r ≡ toZ w64 x ⌝ }
 {
@@ -247,19 +259,21 @@ pub fn signed64(x: u64) -> i64
     }
 }
 
-// The pattern of a signed number, in two's complement. It compiles to nothing.
+// The 16 bits of a signed number in two's complement, as an unsigned number. It compiles to nothing.
 pub fn pattern16(x: i16) -> u16
     ensures { λ r. ⌜ r ≡ ofZ w16 x ⌝ }
 {
     if x < 0 { !((!x) as u16) } else { x as u16 }
 }
 
+// The same of 32 bits.
 pub fn pattern32(x: i32) -> u32
     ensures { λ r. ⌜ r ≡ ofZ w32 x ⌝ }
 {
     if x < 0 { !((!x) as u32) } else { x as u32 }
 }
 
+// The same of 64 bits.
 pub fn pattern64(x: i64) -> u64
     ensures { λ r. ⌜ r ≡ ofZ w64 x ⌝ }
 {

@@ -1,5 +1,5 @@
-// For each ready chunk of the recording on standard input: its time, its centre frequency if that is known, and for each
-// channel its largest sample.
+// For each ready chunk of the recording on standard input: its time, its centre frequency if that is known, and for
+// each channel its largest sample.
 use body::Data;
 use effect::Verdict;
 use frame::OrderFound;
@@ -52,7 +52,8 @@ fn chunk(order: Order, s: &[u8], stepped: Stepped) {
     }
 }
 
-// The frequency is `-` where none is known. Channels are numbered from 0, and the first number that there is not ends them.
+// The frequency is `-` where none is known. Channels are numbered from 0, and the first number that there is not ends
+// them.
 fn line(order: Order, s: &[u8], stepped: Stepped, data: Data) {
     print(listing::word(b"peak"));
     print(listing::decimal(data.time));

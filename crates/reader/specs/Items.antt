@@ -25,7 +25,8 @@ unfoldable pub itemsFrom : Order → ℕ → Bool → State → List Frame → L
 itemsFrom o p step s [] = []
 itemsFrom o p step s (Frames.chunk code body ∷ rest) =
     let e : Effect = effect o (kindOf code) body (before step s) in
-    record { item = chunk p code (length body) (e .says); shown = e .shown } ∷ itemsFrom o (p + headerSize + length body) true (e .after) rest
+    record { item = chunk p code (length body) (e .says); shown = e .shown }
+    ∷ itemsFrom o (p + headerSize + length body) true (e .after) rest
 itemsFrom o p step s (Frames.skipped bytes ∷ rest) =
     record { item = skipped p (length bytes); shown = noState } ∷ itemsFrom o (p + length bytes) false s rest
 itemsFrom o p step s (Frames.unfinished bytes ∷ rest) =

@@ -51,11 +51,19 @@ refused n c = record { item = refuses n; shown = noState; cursor = c }
 
 -- at no sync or a bad header, the stretch up to where a search stops is skipped, and the reader is searching
 abbrev pub skips : Cursor → ℕ → Step
-skips c g = record { item = gives (skipped (c .place) g); shown = noState; cursor = cursorAt (c .place + g) false (c .state) }
+skips c g = record {
+  item = gives (skipped (c .place) g);
+  shown = noState;
+  cursor = cursorAt (c .place + g) false (c .state);
+}
 
 -- an unfinished end is one item; the cursor is then at the end, in step or searching as before and with the same state
 abbrev pub cuts : Cursor → ℕ → Step
-cuts c n = record { item = gives (unfinished (c .place) n); shown = noState; cursor = cursorAt (c .place + n) (c .«in_step») (c .state) }
+cuts c n = record {
+  item = gives (unfinished (c .place) n);
+  shown = noState;
+  cursor = cursorAt (c .place + n) (c .«in_step») (c .state);
+}
 
 -- a complete chunk is accepted
 abbrev pub accepts : Cursor → ℕ → ℕ → Effect → Step
@@ -68,7 +76,8 @@ accepts c code size e = record {
 -- by what is ahead, l being the bytes from the place on; where there are none it answers End and leaves the cursor
 abbrev pub stepBy : Order → List ℕ → Cursor → Ahead → Step
 stepBy o l c End = record { item = gives end; shown = noState; cursor = c }
-stepBy o l c (Chunk code size) = accepts c code size (effect o (kindOf code) (take size (drop headerSize l)) (before (c .«in_step») (c .state)))
+stepBy o l c (Chunk code size) =
+    accepts c code size (effect o (kindOf code) (take size (drop headerSize l)) (before (c .«in_step») (c .state)))
 stepBy o l c Cut = cuts c (length l)
 stepBy o l c Stretch = skips c (gap o l)
 

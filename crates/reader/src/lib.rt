@@ -22,7 +22,7 @@ use frame::Found;
 use num::Order;
 use state::State;
 
-// Where a reader stands: a place of the stream, in step or searching, and the channel state.
+// Where a reader stands: its place in the stream, whether it is in step or searching, and the channel state.
 pub struct Cursor {
     pub place: usize,
     pub in_step: bool,
@@ -80,7 +80,8 @@ impl Item {
     }
 }
 
-// The item; the state that a ready chunk shows, empty where nothing is shown; the cursor moved on.
+// What a step gives: the item; the state that a ready chunk shows, which is empty for every other item; and the cursor
+// for the next step.
 pub struct Stepped {
     pub item: Item,
     pub shown: State,
@@ -88,7 +89,7 @@ pub struct Stepped {
 }
 
 impl Cursor {
-    // Searching, at place 0, with no value.
+    // A cursor to start with: at place 0, searching, with no value in its state.
     pub fn new() -> Self
         ensures { λ r. ⌜ r ≡ newCursor ⌝ }
     {
@@ -99,7 +100,8 @@ impl Cursor {
         }
     }
 
-    // Past a chunk, and in step. The state of a searching reader is emptied.
+    // The cursor at the place `to`, in step. If it was searching, the step is regained: its state is emptied and the
+    // start mark set. A step does this at each chunk.
     pub fn accept(self, to: usize) -> Self
         ensures { λ r. ⌜ r ≡ accepted self to ⌝ }
     {
@@ -119,7 +121,7 @@ impl Cursor {
         }
     }
 
-    // Searching, where it stands.
+    // The same cursor, searching. For a caller that knows of a break in the stream.
     pub fn lose_step(mut self) -> Self
         ensures { λ r. ⌜ r ≡ lost self ⌝ }
     {
@@ -127,7 +129,7 @@ impl Cursor {
         self
     }
 
-    // The same cursor, its state put together from its values, which is faster to carry on.
+    // The same cursor, its state rebuilt field by field, so that the compiler copies no padding.
     fn anew(self) -> Self
         ensures { λ r. ⌜ r ≡ self ⌝ }
     {
@@ -139,7 +141,9 @@ impl Cursor {
         }
     }
 
-    // One item, and the cursor moved on.
+    // Reads the item at the cursor and moves the cursor past it. Refused, with the cursor as it came: PastEnd, number
+    // 2, where its place is past the end; BadState, number 3, where it is in step with a state that no chunks leave.
+    // With no byte left the item is End. A cursor that came from `new` by steps is never refused.
     pub fn step(self, order: Order, s: &[u8]) -> Stepped
         ensures { λ r. ⌜ IsStep r (stepOf order (now (s .entry)) self) ⌝ }
     {
@@ -147,7 +151,7 @@ impl Cursor {
         cursor.go_on(order, s)
     }
 
-    // The same of a cursor whose state is put together.
+    // A step of a cursor that was rebuilt.
     fn go_on(self, order: Order, s: &[u8]) -> Stepped
         ensures { λ r. ⌜ IsStep r (stepOf order (now (s .entry)) self) ⌝ }
     {
@@ -195,7 +199,8 @@ fn still(item: Item, cursor: Cursor) -> Stepped
 // A complete chunk is accepted: the body takes effect on the state.
 fn chunk(order: Order, code: u32, body: &[u8], cursor: Cursor) -> Stepped
     requires { ⌜ cursor .place + headerSize + length (now body) < 2 ^ 64 ⌝ }
-    ensures { λ r. ⌜ IsStep r (accepts cursor code (length (now (body .entry))) (effect order (kindOf code) (now (body .entry)) (before (cursor .«in_step») (cursor .state)))) ⌝ }
+    ensures { λ r. ⌜ IsStep r (accepts cursor code (length (now (body .entry)))
+        (effect order (kindOf code) (now (body .entry)) (before (cursor .«in_step») (cursor .state)))) ⌝ }
 {
     let place = cursor.place;
     let size = body.len();
@@ -284,7 +289,7 @@ fn past(order: Order, s: &[u8], place: usize) -> usize
     }
 }
 
-// How many items a stream has.
+// How many items a stream has: as many as steps from a new cursor give before End.
 pub fn count(order: Order, s: &[u8]) -> usize
     ensures { λ r. ⌜ r ≡ length (items order (now (s .entry))) ⌝ }
 {

@@ -40,7 +40,8 @@ layoutIn float channel shown (ready d) code = layout float (shaped (kindOf code)
 
 abbrev pub layoutBy : Bool → ℕ → State → Answer Item → Answer Layout
 layoutBy float channel shown (refuses n) = refuses n
-layoutBy float channel shown (gives i) = ofChunk (refuses 35) (λ place code size says. layoutIn float channel shown says code) i
+layoutBy float channel shown (gives i) =
+    ofChunk (refuses 35) (λ place code size says. layoutIn float channel shown says code) i
 
 -- numbers 2 and 3 as in a step, then 35, then 34
 unfoldable pub layoutAt : Bool → Order → List ℕ → Cursor → ℕ → Answer Layout

@@ -46,17 +46,19 @@ isThat code size Stretch = false
 isThat code size Cut = false
 isThat code size (Chunk k n) = both (eqb k code) (eqb n size)
 
--- l begins with the chunk that an item tells of, and with the state that was shown it is ready, with the time and the count of
--- samples that the item tells of
+-- l begins with the chunk that an item tells of, and with the state that was shown it is ready, with the time and the
+-- count of samples that the item tells of
 abbrev pub isThere : Order → List ℕ → State → ℕ → ℕ → Says → Bool
 isThere o l shown code size says =
-    both (isThat code size (aheadOf o l)) (bothGive (readyData (effect o (kindOf code) (take size (drop headerSize l)) shown .says)) (readyData says))
+    both (isThat code size (aheadOf o l))
+    (bothGive (readyData (effect o (kindOf code) (take size (drop headerSize l)) shown .says)) (readyData says))
 
 -- where the channel's numbers lie in it: number 35 unless it is there and of the width, then 34
 abbrev pub layoutThere : Bool → Order → List ℕ → ℕ → State → Answer Item → Answer Layout
 layoutThere float o s channel shown (refuses n) = refuses 35
 layoutThere float o s channel shown (gives i) =
-    ofChunk (refuses 35) (λ place code size says. pick (isThere o (drop place s) shown code size says) (layoutIn float channel shown says code) (refuses 35)) i
+    ofChunk (refuses 35) (λ place code size says.
+    pick (isThere o (drop place s) shown code size says) (layoutIn float channel shown says code) (refuses 35)) i
 
 unfoldable pub layoutGiven : Bool → Order → List ℕ → Stepped → ℕ → Answer Layout
 layoutGiven float o s t channel = layoutThere float o s channel (t .shown) (itemSaid (t .item))

@@ -31,7 +31,13 @@ alone channel l = pick (eqb channel 0) (gives l) (refuses 34)
 
 -- pairs packed as SIQP says, or reals
 abbrev pub paired : State → Data → Layout
-paired s d = record { pairs = true; iq = isNumber 1 (s .values .packing .value); first = 0; step = 1; count = d .samples }
+paired s d = record {
+  pairs = true;
+  iq = isNumber 1 (s .values .packing .value);
+  first = 0;
+  step = 1;
+  count = d .samples;
+}
 
 abbrev pub real : Data → Layout
 real d = record { pairs = false; iq = false; first = 0; step = 1; count = d .samples }

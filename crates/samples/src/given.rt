@@ -32,7 +32,8 @@ fn same_data(a: Data, b: Data) -> bool
     (a.time == b.time) & (a.samples == b.samples)
 }
 
-// The stream has to have the chunk where it was given, and with the state shown it has to be ready as it was said to be.
+// The stream has to have the chunk where it was given, and with the state shown it has to be ready as it was said to
+// be.
 pub(crate) fn plan_of(
     order: Order,
     s: &[u8],
@@ -40,7 +41,9 @@ pub(crate) fn plan_of(
     channel: usize,
     float: bool,
 ) -> Planned
-    ensures { λ r. ⌜ Tells (now (s .entry)) (layoutGiven float order (now (s .entry)) stepped channel) (samplesGiven (now (s .entry)) stepped) r × Sound (numberBytes float) (now (s .entry)) r ⌝ }
+    ensures { λ r. ⌜ Tells (now (s .entry)) (layoutGiven float order (now (s .entry)) stepped channel)
+        (samplesGiven (now (s .entry)) stepped) r
+        × Sound (numberBytes float) (now (s .entry)) r ⌝ }
 {
     let item = stepped.item;
     let Item::Chunk {

@@ -1,5 +1,5 @@
-// Samples: the numbers of one channel, copied out of a ready data chunk: the one at a cursor, or the one that a step gave. Here
-// stands where they lie.
+// Samples: the numbers of one channel, copied out of a ready data chunk: the one at a cursor, or the one that a step
+// gave. Here stands where they lie.
 mod answer;
 mod given;
 pub mod patterns;
@@ -29,8 +29,8 @@ use num::Order;
 use reader::Cursor;
 use state::State;
 
-// Where a channel's numbers lie among those of a chunk: pairs, the first of them, the step from one to the next and how many;
-// or the reals from the first on.
+// Where a channel's numbers lie among those of a chunk: pairs, by the first of them, the step from one to the next and
+// how many; or reals, from the first on.
 pub struct Layout {
     pub pairs: bool,
     pub iq: bool,
@@ -45,14 +45,14 @@ pub enum LayoutFound {
     NotReady,
 }
 
-// What is to be copied: where the channel's numbers lie in a part of the stream, and the places between which that part lies;
-// or why nothing is.
+// What is to be copied: where the channel's numbers lie in a part of the stream, and the places between which that part
+// lies; or why nothing is.
 pub enum Planned {
     Go(Layout, usize, usize),
     Refused(Copied),
 }
 
-// The count of numbers written, or why there are none.
+// How many numbers were copied, or why none were.
 pub enum Copied {
     Count(usize),
     // The cursor's place is past the end: number 2.
@@ -176,7 +176,8 @@ fn layout_in(float: bool, shaped: Shaped, channel: usize, shown: State, d: Data)
 // The data of the complete chunk of a kind and a size at a place, where it is ready with this state.
 fn data_at(order: Order, s: &[u8], at: usize, kind: Kind, size: usize, state: State) -> Asked
     requires { ⌜ at + headerSize + size ≤ length (now s) ⌝ }
-    ensures { λ r. ⌜ askedSaid r ≡ readyData (effect order kind (take size (drop headerSize (drop at (now (s .entry))))) state .says) ⌝ }
+    ensures { λ r. ⌜ askedSaid r
+        ≡ readyData (effect order kind (take size (drop headerSize (drop at (now (s .entry))))) state .says) ⌝ }
 {
     let from = at + frame::HEADER;
     let to = from + size;
@@ -209,7 +210,9 @@ fn plan_in(
 
 // The plan for the chunk at a cursor. No step is made: it would move a state that nobody asks for.
 fn plan_at(order: Order, s: &[u8], cursor: Cursor, channel: usize, float: bool) -> Planned
-    ensures { λ r. ⌜ Tells (now (s .entry)) (layoutAt float order (now (s .entry)) cursor channel) (samplesAt order (now (s .entry)) cursor) r × Sound (numberBytes float) (now (s .entry)) r ⌝ }
+    ensures { λ r. ⌜ Tells (now (s .entry)) (layoutAt float order (now (s .entry)) cursor channel)
+        (samplesAt order (now (s .entry)) cursor) r
+        × Sound (numberBytes float) (now (s .entry)) r ⌝ }
 {
     let at = cursor.place;
     if s.len() < at {

@@ -19,7 +19,9 @@ use reader::Stepped;
 fn fill_from(order: Order, at: usize, src: &[u8], l: Layout, out: &mut [u32]) -> Copied
     requires { ⌜ lies 4 (length (now src)) l ≡ true ⌝ }
     ensures { λ r. ⌜ copiedSaid r ≡ countWithin (length (now (out .entry))) l ⌝ }
-    ensures { λ r. ⌜ now (out .exit) ≡ filled (countWithin (length (now (out .entry))) l) (gives l) (patternAt order (now (src .entry))) (now (out .entry)) ⌝ }
+    ensures { λ r. ⌜ now (out .exit)
+        ≡ filled (countWithin (length (now (out .entry))) l) (gives l) (patternAt order (now (src .entry)))
+        (now (out .entry)) ⌝ }
 {
     let count = l.count;
     if l.pairs {
@@ -48,9 +50,9 @@ fn fill(order: Order, s: &[u8], planned: Planned, out: &mut [u32]) -> Copied
     }
 }
 
-// Copies the 32-bit patterns of one channel out of the ready data chunk at the cursor, I before Q, to the front of the slice, and
-// answers how many they are. Refused, in this order, with 2, 3, 35, 34 and 33 (see `Copied`); then nothing is written. What
-// lies behind the numbers stays as it was.
+// Copies the 32-bit patterns of one channel out of the ready data chunk at the cursor, I before Q, to the front of the
+// slice, and answers how many they are. Refused, in this order, with 2, 3, 35, 34 and 33 (see `Copied`); then nothing
+// is written. What lies behind the numbers stays as it was.
 pub fn patterns_at(
     order: Order,
     s: &[u8],
@@ -59,7 +61,10 @@ pub fn patterns_at(
     out: &mut [u32],
 ) -> Copied
     ensures { λ r. ⌜ copiedSaid r ≡ countOf true order (now (s .entry)) cursor channel (length (now (out .entry))) ⌝ }
-    ensures { λ r. ⌜ now (out .exit) ≡ filled (countOf true order (now (s .entry)) cursor channel (length (now (out .entry)))) (layoutAt true order (now (s .entry)) cursor channel) (patternAt order (samplesAt order (now (s .entry)) cursor)) (now (out .entry)) ⌝ }
+    ensures { λ r. ⌜ now (out .exit)
+        ≡ filled (countOf true order (now (s .entry)) cursor channel (length (now (out .entry))))
+        (layoutAt true order (now (s .entry)) cursor channel)
+        (patternAt order (samplesAt order (now (s .entry)) cursor)) (now (out .entry)) ⌝ }
 {
     fill(
         order,
@@ -69,10 +74,10 @@ pub fn patterns_at(
     )
 }
 
-// The same out of the chunk that a step gave; the cursor that the step left has no say. Refused with 35 where that is no chunk
-// said to be ready, where the stream has no complete chunk of its type and size at its place, where that chunk and the state
-// shown do not make it ready with the same time and count of samples, or where it is not of this width; then with 34 and 33.
-// It is never refused with 2 or 3.
+// The same out of the chunk that a step gave; the cursor that the step left has no say. Refused with 35 where that is
+// no chunk said to be ready, where the stream has no complete chunk of its type and size at its place, where that chunk
+// and the state shown do not make it ready with the same time and count of samples, or where it is not of this width;
+// then with 34 and 33. It is never refused with 2 or 3.
 pub fn patterns_of(
     order: Order,
     s: &[u8],
@@ -80,8 +85,12 @@ pub fn patterns_of(
     channel: usize,
     out: &mut [u32],
 ) -> Copied
-    ensures { λ r. ⌜ copiedSaid r ≡ countGiven true order (now (s .entry)) stepped channel (length (now (out .entry))) ⌝ }
-    ensures { λ r. ⌜ now (out .exit) ≡ filled (countGiven true order (now (s .entry)) stepped channel (length (now (out .entry)))) (layoutGiven true order (now (s .entry)) stepped channel) (patternAt order (samplesGiven (now (s .entry)) stepped)) (now (out .entry)) ⌝ }
+    ensures { λ r. ⌜ copiedSaid r
+        ≡ countGiven true order (now (s .entry)) stepped channel (length (now (out .entry))) ⌝ }
+    ensures { λ r. ⌜ now (out .exit)
+        ≡ filled (countGiven true order (now (s .entry)) stepped channel (length (now (out .entry))))
+        (layoutGiven true order (now (s .entry)) stepped channel)
+        (patternAt order (samplesGiven (now (s .entry)) stepped)) (now (out .entry)) ⌝ }
 {
     fill(
         order,

@@ -19,7 +19,9 @@ use reader::Stepped;
 fn fill_from(order: Order, at: usize, src: &[u8], l: Layout, out: &mut [i16]) -> Copied
     requires { ⌜ lies 2 (length (now src)) l ≡ true ⌝ }
     ensures { λ r. ⌜ copiedSaid r ≡ countWithin (length (now (out .entry))) l ⌝ }
-    ensures { λ r. ⌜ now (out .exit) ≡ filled (countWithin (length (now (out .entry))) l) (gives l) (shortAt order (now (src .entry))) (now (out .entry)) ⌝ }
+    ensures { λ r. ⌜ now (out .exit)
+        ≡ filled (countWithin (length (now (out .entry))) l) (gives l) (shortAt order (now (src .entry)))
+        (now (out .entry)) ⌝ }
 {
     let count = l.count;
     if l.pairs {
@@ -48,12 +50,15 @@ fn fill(order: Order, s: &[u8], planned: Planned, out: &mut [i16]) -> Copied
     }
 }
 
-// Copies the 16-bit numbers of one channel out of the ready data chunk at the cursor, I before Q, to the front of the slice, and
-// answers how many they are. Refused, in this order, with 2, 3, 35, 34 and 33 (see `Copied`); then nothing is written. What
-// lies behind the numbers stays as it was.
+// Copies the 16-bit numbers of one channel out of the ready data chunk at the cursor, I before Q, to the front of the
+// slice, and answers how many they are. Refused, in this order, with 2, 3, 35, 34 and 33 (see `Copied`); then nothing
+// is written. What lies behind the numbers stays as it was.
 pub fn shorts_at(order: Order, s: &[u8], cursor: Cursor, channel: usize, out: &mut [i16]) -> Copied
     ensures { λ r. ⌜ copiedSaid r ≡ countOf false order (now (s .entry)) cursor channel (length (now (out .entry))) ⌝ }
-    ensures { λ r. ⌜ now (out .exit) ≡ filled (countOf false order (now (s .entry)) cursor channel (length (now (out .entry)))) (layoutAt false order (now (s .entry)) cursor channel) (shortAt order (samplesAt order (now (s .entry)) cursor)) (now (out .entry)) ⌝ }
+    ensures { λ r. ⌜ now (out .exit)
+        ≡ filled (countOf false order (now (s .entry)) cursor channel (length (now (out .entry))))
+        (layoutAt false order (now (s .entry)) cursor channel)
+        (shortAt order (samplesAt order (now (s .entry)) cursor)) (now (out .entry)) ⌝ }
 {
     fill(
         order,
@@ -63,10 +68,10 @@ pub fn shorts_at(order: Order, s: &[u8], cursor: Cursor, channel: usize, out: &m
     )
 }
 
-// The same out of the chunk that a step gave; the cursor that the step left has no say. Refused with 35 where that is no chunk
-// said to be ready, where the stream has no complete chunk of its type and size at its place, where that chunk and the state
-// shown do not make it ready with the same time and count of samples, or where it is not of this width; then with 34 and 33.
-// It is never refused with 2 or 3.
+// The same out of the chunk that a step gave; the cursor that the step left has no say. Refused with 35 where that is
+// no chunk said to be ready, where the stream has no complete chunk of its type and size at its place, where that chunk
+// and the state shown do not make it ready with the same time and count of samples, or where it is not of this width;
+// then with 34 and 33. It is never refused with 2 or 3.
 pub fn shorts_of(
     order: Order,
     s: &[u8],
@@ -74,8 +79,12 @@ pub fn shorts_of(
     channel: usize,
     out: &mut [i16],
 ) -> Copied
-    ensures { λ r. ⌜ copiedSaid r ≡ countGiven false order (now (s .entry)) stepped channel (length (now (out .entry))) ⌝ }
-    ensures { λ r. ⌜ now (out .exit) ≡ filled (countGiven false order (now (s .entry)) stepped channel (length (now (out .entry)))) (layoutGiven false order (now (s .entry)) stepped channel) (shortAt order (samplesGiven (now (s .entry)) stepped)) (now (out .entry)) ⌝ }
+    ensures { λ r. ⌜ copiedSaid r
+        ≡ countGiven false order (now (s .entry)) stepped channel (length (now (out .entry))) ⌝ }
+    ensures { λ r. ⌜ now (out .exit)
+        ≡ filled (countGiven false order (now (s .entry)) stepped channel (length (now (out .entry))))
+        (layoutGiven false order (now (s .entry)) stepped channel)
+        (shortAt order (samplesGiven (now (s .entry)) stepped)) (now (out .entry)) ⌝ }
 {
     fill(
         order,

@@ -1,4 +1,5 @@
-// The listing and the dump of a stream, written to standard output: each line, or word of a line, as the crate listing makes it.
+// The listing and the dump of a stream, written to standard output: each line, or word of a line, as the crate listing
+// makes it.
 mod channels;
 mod chunk;
 mod line;
@@ -10,9 +11,10 @@ use listing::Text;
 use num::Order;
 use reader::Cursor;
 
-// The most bytes that are listed, and room for one more, which tells that there are more.
+// The most bytes that are listed.
 pub const MOST: usize = 65536;
 
+// Room for one byte more, which tells a recording that is too long.
 pub const ROOM: usize = 65537;
 
 // The first n bytes of s.
@@ -28,7 +30,7 @@ pub fn print(t: Text) {
     write(&bytes, t.len);
 }
 
-// The lines of a stream; under a chunk's line, in a dump, those of what it shows.
+// Writes the listing of a stream to standard output; in a dump also, under a chunk's line, what the chunk shows.
 pub fn stream(s: &[u8], dump: bool) {
     if MOST < s.len() {
         print(listing::long_line());

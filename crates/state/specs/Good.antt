@@ -53,7 +53,8 @@ anyNumber z = true
 abbrev pub isScale : Float → Bool
 isScale x = both (isFinite x) (lt (ofBits binary32 0) x)
 
--- from place i of a list on, a place below n is used and holds what is allowed, and the others hold what stands for nothing
+-- from place i of a list on, a place below n is used and holds what is allowed, and the others hold what stands for
+-- nothing
 unfoldable pub goodFrom : {A : Type 0} → (A → Bool) → (A → Bool) → ℕ → ℕ → List A → Bool
 goodFrom ok none n i [] = true
 goodFrom ok none n i (x ∷ l) = both (pick (ltb i n) (ok x) (none x)) (goodFrom ok none n (suc i) l)

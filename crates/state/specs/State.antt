@@ -20,17 +20,149 @@ valueIn gains v = v .gains
 
 -- values with that of one slot put anew
 abbrev pub setIn : (x : Slot) → Value x → Values → Values
-setIn packing a v = record { packing = a; rate = v .rate; band = v .band; «group_band» = v .«group_band»; centre = v .centre; «full_scale» = v .«full_scale»; «total_gain» = v .«total_gain»; «float_scale» = v .«float_scale»; group = v .group; frequencies = v .frequencies; gains = v .gains }
-setIn rate a v = record { packing = v .packing; rate = a; band = v .band; «group_band» = v .«group_band»; centre = v .centre; «full_scale» = v .«full_scale»; «total_gain» = v .«total_gain»; «float_scale» = v .«float_scale»; group = v .group; frequencies = v .frequencies; gains = v .gains }
-setIn band a v = record { packing = v .packing; rate = v .rate; band = a; «group_band» = v .«group_band»; centre = v .centre; «full_scale» = v .«full_scale»; «total_gain» = v .«total_gain»; «float_scale» = v .«float_scale»; group = v .group; frequencies = v .frequencies; gains = v .gains }
-setIn groupBand a v = record { packing = v .packing; rate = v .rate; band = v .band; «group_band» = a; centre = v .centre; «full_scale» = v .«full_scale»; «total_gain» = v .«total_gain»; «float_scale» = v .«float_scale»; group = v .group; frequencies = v .frequencies; gains = v .gains }
-setIn centre a v = record { packing = v .packing; rate = v .rate; band = v .band; «group_band» = v .«group_band»; centre = a; «full_scale» = v .«full_scale»; «total_gain» = v .«total_gain»; «float_scale» = v .«float_scale»; group = v .group; frequencies = v .frequencies; gains = v .gains }
-setIn fullScale a v = record { packing = v .packing; rate = v .rate; band = v .band; «group_band» = v .«group_band»; centre = v .centre; «full_scale» = a; «total_gain» = v .«total_gain»; «float_scale» = v .«float_scale»; group = v .group; frequencies = v .frequencies; gains = v .gains }
-setIn totalGain a v = record { packing = v .packing; rate = v .rate; band = v .band; «group_band» = v .«group_band»; centre = v .centre; «full_scale» = v .«full_scale»; «total_gain» = a; «float_scale» = v .«float_scale»; group = v .group; frequencies = v .frequencies; gains = v .gains }
-setIn floatScale a v = record { packing = v .packing; rate = v .rate; band = v .band; «group_band» = v .«group_band»; centre = v .centre; «full_scale» = v .«full_scale»; «total_gain» = v .«total_gain»; «float_scale» = a; group = v .group; frequencies = v .frequencies; gains = v .gains }
-setIn group a v = record { packing = v .packing; rate = v .rate; band = v .band; «group_band» = v .«group_band»; centre = v .centre; «full_scale» = v .«full_scale»; «total_gain» = v .«total_gain»; «float_scale» = v .«float_scale»; group = a; frequencies = v .frequencies; gains = v .gains }
-setIn frequencies a v = record { packing = v .packing; rate = v .rate; band = v .band; «group_band» = v .«group_band»; centre = v .centre; «full_scale» = v .«full_scale»; «total_gain» = v .«total_gain»; «float_scale» = v .«float_scale»; group = v .group; frequencies = a; gains = v .gains }
-setIn gains a v = record { packing = v .packing; rate = v .rate; band = v .band; «group_band» = v .«group_band»; centre = v .centre; «full_scale» = v .«full_scale»; «total_gain» = v .«total_gain»; «float_scale» = v .«float_scale»; group = v .group; frequencies = v .frequencies; gains = a }
+setIn packing a v = record {
+  packing = a;
+  rate = v .rate;
+  band = v .band;
+  «group_band» = v .«group_band»;
+  centre = v .centre;
+  «full_scale» = v .«full_scale»;
+  «total_gain» = v .«total_gain»;
+  «float_scale» = v .«float_scale»;
+  group = v .group;
+  frequencies = v .frequencies;
+  gains = v .gains;
+}
+setIn rate a v = record {
+  packing = v .packing;
+  rate = a;
+  band = v .band;
+  «group_band» = v .«group_band»;
+  centre = v .centre;
+  «full_scale» = v .«full_scale»;
+  «total_gain» = v .«total_gain»;
+  «float_scale» = v .«float_scale»;
+  group = v .group;
+  frequencies = v .frequencies;
+  gains = v .gains;
+}
+setIn band a v = record {
+  packing = v .packing;
+  rate = v .rate;
+  band = a;
+  «group_band» = v .«group_band»;
+  centre = v .centre;
+  «full_scale» = v .«full_scale»;
+  «total_gain» = v .«total_gain»;
+  «float_scale» = v .«float_scale»;
+  group = v .group;
+  frequencies = v .frequencies;
+  gains = v .gains;
+}
+setIn groupBand a v = record {
+  packing = v .packing;
+  rate = v .rate;
+  band = v .band;
+  «group_band» = a;
+  centre = v .centre;
+  «full_scale» = v .«full_scale»;
+  «total_gain» = v .«total_gain»;
+  «float_scale» = v .«float_scale»;
+  group = v .group;
+  frequencies = v .frequencies;
+  gains = v .gains;
+}
+setIn centre a v = record {
+  packing = v .packing;
+  rate = v .rate;
+  band = v .band;
+  «group_band» = v .«group_band»;
+  centre = a;
+  «full_scale» = v .«full_scale»;
+  «total_gain» = v .«total_gain»;
+  «float_scale» = v .«float_scale»;
+  group = v .group;
+  frequencies = v .frequencies;
+  gains = v .gains;
+}
+setIn fullScale a v = record {
+  packing = v .packing;
+  rate = v .rate;
+  band = v .band;
+  «group_band» = v .«group_band»;
+  centre = v .centre;
+  «full_scale» = a;
+  «total_gain» = v .«total_gain»;
+  «float_scale» = v .«float_scale»;
+  group = v .group;
+  frequencies = v .frequencies;
+  gains = v .gains;
+}
+setIn totalGain a v = record {
+  packing = v .packing;
+  rate = v .rate;
+  band = v .band;
+  «group_band» = v .«group_band»;
+  centre = v .centre;
+  «full_scale» = v .«full_scale»;
+  «total_gain» = a;
+  «float_scale» = v .«float_scale»;
+  group = v .group;
+  frequencies = v .frequencies;
+  gains = v .gains;
+}
+setIn floatScale a v = record {
+  packing = v .packing;
+  rate = v .rate;
+  band = v .band;
+  «group_band» = v .«group_band»;
+  centre = v .centre;
+  «full_scale» = v .«full_scale»;
+  «total_gain» = v .«total_gain»;
+  «float_scale» = a;
+  group = v .group;
+  frequencies = v .frequencies;
+  gains = v .gains;
+}
+setIn group a v = record {
+  packing = v .packing;
+  rate = v .rate;
+  band = v .band;
+  «group_band» = v .«group_band»;
+  centre = v .centre;
+  «full_scale» = v .«full_scale»;
+  «total_gain» = v .«total_gain»;
+  «float_scale» = v .«float_scale»;
+  group = a;
+  frequencies = v .frequencies;
+  gains = v .gains;
+}
+setIn frequencies a v = record {
+  packing = v .packing;
+  rate = v .rate;
+  band = v .band;
+  «group_band» = v .«group_band»;
+  centre = v .centre;
+  «full_scale» = v .«full_scale»;
+  «total_gain» = v .«total_gain»;
+  «float_scale» = v .«float_scale»;
+  group = v .group;
+  frequencies = a;
+  gains = v .gains;
+}
+setIn gains a v = record {
+  packing = v .packing;
+  rate = v .rate;
+  band = v .band;
+  «group_band» = v .«group_band»;
+  centre = v .centre;
+  «full_scale» = v .«full_scale»;
+  «total_gain» = v .«total_gain»;
+  «float_scale» = v .«float_scale»;
+  group = v .group;
+  frequencies = v .frequencies;
+  gains = a;
+}
 
 -- values given slot by slot
 abbrev pub built : ((x : Slot) → Value x) → Values

@@ -125,11 +125,14 @@ pub struct Listed {
     pub gains: bool,
 }
 
-// In each list the first n places are used, and the others hold 0: what is not 0 reaches no further than n. An offset fits an
-// int32, and a gain is finite. One loop goes over the three lists with no early way out, so that several places are tested at a
-// time. It notes the largest offset, 1 where a gain is endless, and in a, b and c how far each list reaches.
+// In each list the first n places are used, and the others hold 0: what is not 0 reaches no further than n. An offset
+// fits an int32, and a gain is finite. One loop goes over the three lists with no early way out, so that several places
+// are tested at a time. It notes the largest offset, 1 where a gain is endless, and in a, b and c how far each list
+// reaches.
 fn places(group: GroupPacking, frequencies: GroupHertz, gains: GroupGains) -> Listed
-    ensures { λ r. ⌜ (r .offsets ≡ goodFrom isOffset isNoOffset (group .n) 0 (group .offsets)) × (r .hertz ≡ goodFrom anyNumber isZero (frequencies .n) 0 (frequencies .values)) × (r .gains ≡ goodFrom isFinite isPlusZero (gains .n) 0 (gains .values)) ⌝ }
+    ensures { λ r. ⌜ (r .offsets ≡ goodFrom isOffset isNoOffset (group .n) 0 (group .offsets))
+        × (r .hertz ≡ goodFrom anyNumber isZero (frequencies .n) 0 (frequencies .values))
+        × (r .gains ≡ goodFrom isFinite isPlusZero (gains .n) 0 (gains .values)) ⌝ }
 {
     let offsets = group.offsets;
     let hertz = frequencies.values;
@@ -180,7 +183,8 @@ fn good_list(n: usize, listed: bool) -> bool
 }
 
 impl Values {
-    // The values that are no lists, and the head of the group packing.
+    // One half of the test behind number 3: whether the values that are no lists, and the head of the group packing,
+    // may stand in a state.
     pub fn good_values(self) -> bool
         ensures { λ r. ⌜ r ≡ goodValues self ⌝ }
     {
@@ -196,7 +200,7 @@ impl Values {
             & good_head(group)
     }
 
-    // The three lists: up to 16 channels each, and every place as it may be.
+    // The other half: whether each of the three lists has at most 16 channels and holds only what it may.
     pub fn good_lists(self) -> bool
         ensures { λ r. ⌜ r ≡ goodLists self ⌝ }
     {

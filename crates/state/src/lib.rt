@@ -11,7 +11,7 @@ use body::LevelHeld;
 
 pub mod good;
 
-// What the chunks so far have set.
+// The values that chunks have set since the step was last regained, each absent or present.
 pub struct Values {
     // SIQP: 1 for I before Q
     pub packing: Held,
@@ -37,7 +37,7 @@ pub struct Values {
     pub gains: GroupGains,
 }
 
-// The values, and the start mark.
+// The channel state: the values, and the start mark.
 pub struct State {
     pub values: Values,
     // the next samples do not follow on from those before
@@ -85,8 +85,8 @@ fn packing_anew(g: GroupPacking) -> GroupPacking
 }
 
 impl Values {
-    // The same values, each put together from its parts. Where a state is copied whole and then read value by value, a compiler
-    // carries the padding between the values along in small pieces; of this copy it carries the values alone.
+    // The same values, rebuilt field by field. A struct that is copied whole and then read field by field has its
+    // padding copied too, in small pieces; of this copy the compiler moves the fields alone.
     fn anew(self) -> Self
         ensures { λ r. ⌜ r ≡ self ⌝ }
     {
@@ -128,7 +128,7 @@ impl Values {
 }
 
 impl State {
-    // The same state, put together from its values.
+    // The same state, rebuilt field by field, so that the compiler copies no padding.
     pub fn anew(self) -> Self
         ensures { λ r. ⌜ r ≡ self ⌝ }
     {
@@ -139,21 +139,22 @@ impl State {
         }
     }
 
-    // The state with other values. It is put together from its parts, which is faster than a copy that is then written over.
+    // The state with other values and the same mark. It is built from its two parts, since a whole copy that is then
+    // changed takes longer.
     pub fn with_values(self, values: Values) -> Self
         ensures { λ r. ⌜ r ≡ withValues self values ⌝ }
     {
         State { values, ..self }
     }
 
-    // The state with the start mark, or without.
+    // The state with the same values, and the start mark set or not.
     pub fn with_mark(self, mark: bool) -> Self
         ensures { λ r. ⌜ r ≡ withMark self mark ⌝ }
     {
         State { mark, ..self }
     }
 
-    // Every value absent; with or without the start mark.
+    // A state with no value present, and the start mark set or not.
     pub fn empty(mark: bool) -> Self
         ensures { λ r. ⌜ r ≡ emptied mark ⌝ }
     {

@@ -73,7 +73,8 @@ fn long(s: &[u8], i: usize) -> usize
     }
 }
 
-// Whether the n bytes from i on are plain, below 80 hex. The loop has no early way out, so that many bytes are compared at a time.
+// Whether the n bytes from i on are plain, below 80 hex. The loop has no early way out, so that many bytes are compared
+// at a time.
 fn plain(s: &[u8], i: usize, n: usize) -> bool
     requires { ⌜ i + n ≤ length (now s) ⌝ }
     ensures { λ r. ⌜ (r ≡ true → (k : ℕ) → k < n → getD (now (s .entry)) (i + k) 0 < 128) ⌝ }
@@ -123,7 +124,9 @@ fn plains(s: &[u8], i: usize, end: usize) -> usize
 // Where whole characters lead from i on: to end or past it, or to a place before end where no character stands.
 fn characters(s: &[u8], i: usize, end: usize) -> usize
     requires { ⌜ (i ≤ length (now s)) × (end ≤ length (now s)) ⌝ }
-    ensures { λ r. ⌜ (r ≤ length (now (s .entry))) × (isUtf8 (drop i (now (s .entry))) ≡ isUtf8 (drop r (now (s .entry)))) × (r < end → isUtf8 (drop r (now (s .entry))) ≡ false) ⌝ }
+    ensures { λ r. ⌜ (r ≤ length (now (s .entry)))
+        × (isUtf8 (drop i (now (s .entry))) ≡ isUtf8 (drop r (now (s .entry))))
+        × (r < end → isUtf8 (drop r (now (s .entry))) ≡ false) ⌝ }
 {
     let mut at = i;
     while at < end {
@@ -140,7 +143,7 @@ fn characters(s: &[u8], i: usize, end: usize) -> usize
     at
 }
 
-// Whether the bytes are UTF-8. A block of plain bytes is passed over at once, any other by its characters.
+// Whether the bytes are UTF-8 as RFC 3629 has it. Blocks of ASCII are passed over at once.
 pub fn utf8(bytes: &[u8]) -> bool
     ensures { λ r. ⌜ r ≡ isUtf8 (now (bytes .entry)) ⌝ }
 {

@@ -1,5 +1,5 @@
-// Copies at each cursor of a stream: of both widths, from channels that are there and that are not, into slices with and
-// without room.
+// Copies at each cursor of a stream: of both widths, from channels that are there and that are not, into slices with
+// and without room.
 use crate::answer::more;
 use crate::answer::refused;
 use num::Order;

@@ -1,5 +1,5 @@
-// Steps and copies at cursors made at will: in step and searching, in the stream and past it, with states that are good and
-// that are not.
+// Steps and copies at cursors made at will: in step and searching, in the stream and past it, with states that are good
+// and that are not.
 use crate::answer::more;
 use crate::answer::refused;
 use effect::Verdict;

@@ -1,6 +1,6 @@
-// Runs each stream of the file `streams`: its dump, the file check in both orders, digests of what copying and writing answer
-// and leave, and of what cursors made at will are answered. The file has the number of streams, then for each its length and its bytes; both numbers take four
-// bytes, the lowest first.
+// Runs each stream of the file `streams`: its dump, the file check in both orders, digests of what copying and writing
+// answer and leave, and of what cursors made at will are answered. The file has the number of streams, then for each
+// its length and its bytes; both numbers take four bytes, the lowest first.
 mod answer;
 mod check;
 mod copies;

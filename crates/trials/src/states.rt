@@ -1,5 +1,5 @@
-// Forty-one states: a full one and the empty one, the full one with one value that no state may hold, and, from 36 on, with one
-// at the edge of what a state may hold.
+// Forty-one states: a full one and the empty one, the full one with one value that no state may hold, and, from 36 on,
+// with one at the edge of what a state may hold.
 use body::BandHeld;
 use body::GroupGains;
 use body::GroupHertz;

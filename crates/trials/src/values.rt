@@ -1,5 +1,5 @@
-// The well-formed chunks of a stream written anew, each by the call for its kind and from its values, into a slice of 2048
-// bytes. Bodies of more than 1032 bytes are left out.
+// The well-formed chunks of a stream written anew, each by the call for its kind and from its values, into a slice of
+// 2048 bytes. Bodies of more than 1032 bytes are left out.
 use crate::writes::Run;
 use crate::writes::told;
 use body::Checked;

@@ -1,5 +1,5 @@
-// The chunks of a stream written as records into a slice of 512 bytes: each also short of its last byte, and at a place past
-// the end.
+// The chunks of a stream written as records into a slice of 512 bytes: each also short of its last byte, and at a place
+// past the end.
 use crate::answer::more;
 use crate::answer::refused;
 use num::Order;

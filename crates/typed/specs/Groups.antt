@@ -17,13 +17,17 @@ use Rattle.typed.specs.Bodies.{float32}
 abbrev pub atMost : ℕ → ℕ → ℕ
 atMost limit n = pick (ltb limit n) limit n
 
--- The count first. One above 16 has no place for its values: it stands as 17, which the row refuses, and the sixteen values follow.
+-- The count first. One above 16 has no place for its values: it stands as 17, which the row refuses, and the sixteen
+-- values follow.
 abbrev pub countThen : Order → ℕ → List ℕ → List ℕ
 countThen o n rest = bytesOf o 4 (atMost 17 n) ++ rest
 
--- GIQP: the count, the packing, the increment, the offsets; one of 2^31 or more stands as a negative number, which the row refuses
+-- GIQP: the count, the packing, the increment, the offsets; one of 2^31 or more stands as a negative number, which the
+-- row refuses
 unfoldable pub packingBody : Order → GroupPacking → List ℕ
-packingBody o g = countThen o (g .n) (bytesOf o 4 (pick (g .iq) 1 0) ++ (bytesOf o 4 (g .increment) ++ runOf (bytesOf o 4) (take (g .n) (g .offsets))))
+packingBody o g =
+    countThen o (g .n) (bytesOf o 4 (pick (g .iq) 1 0)
+    ++ (bytesOf o 4 (g .increment) ++ runOf (bytesOf o 4) (take (g .n) (g .offsets))))
 
 -- GCF_: the count, the frequencies
 unfoldable pub hertzBody : Order → GroupHertz → List ℕ

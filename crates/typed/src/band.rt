@@ -9,10 +9,14 @@ ghost use Rattle.writer.specs.Write.{writeOf, writtenOut, writtenSaid};
 use num::Order;
 use writer::Written;
 
-// BWOF: the bandwidth, and its offset from the centre frequency, in µHz.
+// Writes a BWOF record: the bandwidth and its offset from the centre frequency, in µHz. Refused as `writer::write` is:
+// a negative bandwidth with 12.
 pub fn bwof(order: Order, bandwidth: i64, offset: i64, out: &mut [u8], place: usize) -> Written
-    ensures said { λ r. ⌜ writtenSaid r ≡ writeOf order (codeOf K.BWOF) (int64 order bandwidth ++ int64 order offset) (length (now (out .entry))) place ⌝ }
-    ensures left { λ _. ⌜ now (out .exit) ≡ writtenOut order (codeOf K.BWOF) (int64 order bandwidth ++ int64 order offset) (now (out .entry)) place ⌝ }
+    ensures said { λ r. ⌜ writtenSaid r
+        ≡ writeOf order (codeOf K.BWOF) (int64 order bandwidth ++ int64 order offset)
+        (length (now (out .entry))) place ⌝ }
+    ensures left { λ _. ⌜ now (out .exit)
+        ≡ writtenOut order (codeOf K.BWOF) (int64 order bandwidth ++ int64 order offset) (now (out .entry)) place ⌝ }
 {
     let both = [bandwidth, offset];
     let mut body = [0u8; 16];

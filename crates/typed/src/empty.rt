@@ -8,7 +8,7 @@ ghost use Rattle.writer.specs.Write.{writeOf, writtenOut, writtenSaid};
 use num::Order;
 use writer::Written;
 
-// EOFH: the end of a file's header.
+// Writes an EOFH record, the end of a file's header. Refused with 2 or 31 alone.
 pub fn eofh(order: Order, out: &mut [u8], place: usize) -> Written
     ensures said { λ r. ⌜ writtenSaid r ≡ writeOf order (codeOf K.EOFH) [] (length (now (out .entry))) place ⌝ }
     ensures left { λ _. ⌜ now (out .exit) ≡ writtenOut order (codeOf K.EOFH) [] (now (out .entry)) place ⌝ }
@@ -16,7 +16,7 @@ pub fn eofh(order: Order, out: &mut [u8], place: usize) -> Written
     writer::write(order, body::kinds::EOFH, &[], out, place)
 }
 
-// IQDC: a break in the samples.
+// Writes an IQDC record, a break in the samples. Refused with 2 or 31 alone.
 pub fn iqdc(order: Order, out: &mut [u8], place: usize) -> Written
     ensures said { λ r. ⌜ writtenSaid r ≡ writeOf order (codeOf K.IQDC) [] (length (now (out .entry))) place ⌝ }
     ensures left { λ _. ⌜ now (out .exit) ≡ writtenOut order (codeOf K.IQDC) [] (now (out .entry)) place ⌝ }

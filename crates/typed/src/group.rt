@@ -44,10 +44,13 @@ fn floats(order: Order, xs: [f32; 16], n: usize, out: &mut [u8], at: usize)
     }
 }
 
-// GIQP: how the pairs of group chunks are packed.
+// Writes a GIQP record: how the pairs of group chunks are packed. Refused as `writer::write` is: n that is not 1 to 16
+// with 13; an increment other than 1 or n, or an offset of 2^31 or more, with 12.
 pub fn giqp(order: Order, packing: GroupPacking, out: &mut [u8], place: usize) -> Written
-    ensures said { λ r. ⌜ writtenSaid r ≡ writeOf order (codeOf K.GIQP) (packingBody order packing) (length (now (out .entry))) place ⌝ }
-    ensures left { λ _. ⌜ now (out .exit) ≡ writtenOut order (codeOf K.GIQP) (packingBody order packing) (now (out .entry)) place ⌝ }
+    ensures said { λ r. ⌜ writtenSaid r
+        ≡ writeOf order (codeOf K.GIQP) (packingBody order packing) (length (now (out .entry))) place ⌝ }
+    ensures left { λ _. ⌜ now (out .exit)
+        ≡ writtenOut order (codeOf K.GIQP) (packingBody order packing) (now (out .entry)) place ⌝ }
 {
     let n = packing.n;
     let offsets = packing.offsets;
@@ -66,10 +69,13 @@ pub fn giqp(order: Order, packing: GroupPacking, out: &mut [u8], place: usize) -
     writer::write(order, body::kinds::GIQP, &all[..end], out, place)
 }
 
-// GCF_: the centre frequency of each channel, in µHz.
+// Writes a GCF_ record: the centre frequency of each channel, in µHz. Refused as `writer::write` is: n that is not 1 to
+// 16 with 13.
 pub fn gcf(order: Order, hertz: GroupHertz, out: &mut [u8], place: usize) -> Written
-    ensures said { λ r. ⌜ writtenSaid r ≡ writeOf order (codeOf K.GCF) (hertzBody order hertz) (length (now (out .entry))) place ⌝ }
-    ensures left { λ _. ⌜ now (out .exit) ≡ writtenOut order (codeOf K.GCF) (hertzBody order hertz) (now (out .entry)) place ⌝ }
+    ensures said { λ r. ⌜ writtenSaid r
+        ≡ writeOf order (codeOf K.GCF) (hertzBody order hertz) (length (now (out .entry))) place ⌝ }
+    ensures left { λ _. ⌜ now (out .exit)
+        ≡ writtenOut order (codeOf K.GCF) (hertzBody order hertz) (now (out .entry)) place ⌝ }
 {
     let n = hertz.n;
     let values = hertz.values;
@@ -84,10 +90,13 @@ pub fn gcf(order: Order, hertz: GroupHertz, out: &mut [u8], place: usize) -> Wri
     writer::write(order, body::kinds::GCF, &all[..end], out, place)
 }
 
-// GRG_: the gain of each channel, in dB.
+// Writes a GRG_ record: the gain of each channel, in dB. Refused as `writer::write` is: n that is not 1 to 16 with 13,
+// a gain that is not finite with 12.
 pub fn grg(order: Order, gains: GroupGains, out: &mut [u8], place: usize) -> Written
-    ensures said { λ r. ⌜ writtenSaid r ≡ writeOf order (codeOf K.GRG) (gainsBody order gains) (length (now (out .entry))) place ⌝ }
-    ensures left { λ _. ⌜ now (out .exit) ≡ writtenOut order (codeOf K.GRG) (gainsBody order gains) (now (out .entry)) place ⌝ }
+    ensures said { λ r. ⌜ writtenSaid r
+        ≡ writeOf order (codeOf K.GRG) (gainsBody order gains) (length (now (out .entry))) place ⌝ }
+    ensures left { λ _. ⌜ now (out .exit)
+        ≡ writtenOut order (codeOf K.GRG) (gainsBody order gains) (now (out .entry)) place ⌝ }
 {
     let n = gains.n;
     let values = gains.values;

@@ -17,10 +17,13 @@ fn float(order: Order, code: u32, x: f32, out: &mut [u8], place: usize) -> Writt
     writer::write(order, code, &body, out, place)
 }
 
-// dBFS, dBTG or FFS_, by the level's case.
+// Writes a dBFS, dBTG or FFS_ record, by the case of the level. Refused as `writer::write` is: a number that is not
+// finite with 12, and for FFS_ one that is not above 0.
 pub fn level(order: Order, level: Level, out: &mut [u8], place: usize) -> Written
-    ensures said { λ r. ⌜ writtenSaid r ≡ writeOf order (levelCode level) (float32 order (levelValue level)) (length (now (out .entry))) place ⌝ }
-    ensures left { λ _. ⌜ now (out .exit) ≡ writtenOut order (levelCode level) (float32 order (levelValue level)) (now (out .entry)) place ⌝ }
+    ensures said { λ r. ⌜ writtenSaid r
+        ≡ writeOf order (levelCode level) (float32 order (levelValue level)) (length (now (out .entry))) place ⌝ }
+    ensures left { λ _. ⌜ now (out .exit)
+        ≡ writtenOut order (levelCode level) (float32 order (levelValue level)) (now (out .entry)) place ⌝ }
 {
     match level {
         Level::FullScale(x) => float(order, body::kinds::DBFS, x, out, place),

@@ -19,10 +19,13 @@ fn room() -> [u8; frame::LIMIT]
     [0u8; frame::LIMIT]
 }
 
-// TEXT: a length, the bytes of the text, and zero bytes up to the next multiple of 4.
+// Writes a TEXT record from the bytes of the text: its length goes before it, and zero bytes up to the next multiple of
+// 4 behind it. Refused as `writer::write` is: a text that is too long with 32, one that is not UTF-8 with 15.
 pub fn text(order: Order, bytes: &[u8], out: &mut [u8], place: usize) -> Written
-    ensures said { λ r. ⌜ writtenSaid r ≡ writeOf order (codeOf K.TEXT) (textBody order (now (bytes .entry))) (length (now (out .entry))) place ⌝ }
-    ensures left { λ _. ⌜ now (out .exit) ≡ writtenOut order (codeOf K.TEXT) (textBody order (now (bytes .entry))) (now (out .entry)) place ⌝ }
+    ensures said { λ r. ⌜ writtenSaid r
+        ≡ writeOf order (codeOf K.TEXT) (textBody order (now (bytes .entry))) (length (now (out .entry))) place ⌝ }
+    ensures left { λ _. ⌜ now (out .exit)
+        ≡ writtenOut order (codeOf K.TEXT) (textBody order (now (bytes .entry))) (now (out .entry)) place ⌝ }
 {
     let n = bytes.len();
     if out.len() < place {

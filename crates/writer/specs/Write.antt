@@ -19,8 +19,8 @@ use Rattle.writer.specs.declared.Written.the-variants.{Next, PastEnd, Ba
 abbrev pub mayBy : Answer (Unit {0}) → ℕ → Answer (Unit {0})
 mayBy judged size = pick (goodSize size) judged (refuses 32)
 
--- In a slice of `whole` bytes: 2 where the place is past its end, then what the record is refused with, then 31 where the
--- room left is under a header and the size; else the next place. A refusal leaves the place as it came.
+-- In a slice of `whole` bytes: 2 where the place is past its end, then what the record is refused with, then 31 where
+-- the room left is under a header and the size; else the next place. A refusal leaves the place as it came.
 abbrev pub writeBy : Answer (Unit {0}) → ℕ → ℕ → ℕ → Answer ℕ
 writeBy judged size whole place =
     pick (ltb whole place) (refuses 2)

@@ -13,11 +13,12 @@ use crate::Written;
 use body::Fault;
 use num::Order;
 
-// The answer for `count` numbers of `stride` bytes, in samples of `unit` bytes, and a slice of `whole` bytes. The count is
-// tested before it is multiplied, so that no size overflows.
+// The answer for `count` numbers of `stride` bytes, in samples of `unit` bytes, and a slice of `whole` bytes. The count
+// is tested before it is multiplied, so that no size overflows.
 fn answer(stride: usize, unit: usize, count: usize, whole: usize, place: usize) -> Written
     requires { ⌜ (1 ≤ stride) × (stride ≤ 4) × (1 ≤ unit) ⌝ }
-    ensures { λ r. ⌜ writtenSaid r ≡ writeBy (wholeSamples unit (8 + count * stride)) (8 + count * stride) whole place ⌝ }
+    ensures { λ r. ⌜ writtenSaid r
+        ≡ writeBy (wholeSamples unit (8 + count * stride)) (8 + count * stride) whole place ⌝ }
 {
     if whole < place {
         return Written::PastEnd;
@@ -42,7 +43,8 @@ fn answer(stride: usize, unit: usize, count: usize, whole: usize, place: usize) 
 // The front of a data chunk: its header and its time.
 fn put_front(order: Order, code: u32, size: u32, time: i64, out: &mut [u8], place: usize)
     requires { ⌜ place + frontSize ≤ length (now out) ⌝ }
-    ensures { λ _. ⌜ now (out .exit) ≡ splice (now (out .entry)) place (headerBytes order code size ++ int64 order time) ⌝ }
+    ensures { λ _. ⌜ now (out .exit)
+        ≡ splice (now (out .entry)) place (headerBytes order code size ++ int64 order time) ⌝ }
 {
     crate::put_header(order, code, size, out, place);
     let times = [time];
@@ -61,8 +63,11 @@ pub(crate) fn begin(
     place: usize,
 ) -> Written
     requires { ⌜ (1 ≤ stride) × (stride ≤ 4) × (1 ≤ unit) ⌝ }
-    ensures said { λ r. ⌜ writtenSaid r ≡ writeBy (wholeSamples unit (8 + count * stride)) (8 + count * stride) (length (now (out .entry))) place ⌝ }
-    ensures left { λ r. ⌜ now (out .exit) ≡ laidBy (writtenSaid r) (now (out .entry)) place (headerBytes order code (8 + count * stride) ++ int64 order time) ⌝ }
+    ensures said { λ r. ⌜ writtenSaid r
+        ≡ writeBy (wholeSamples unit (8 + count * stride)) (8 + count * stride) (length (now (out .entry))) place ⌝ }
+    ensures left { λ r. ⌜ now (out .exit)
+        ≡ laidBy (writtenSaid r) (now (out .entry)) place
+        (headerBytes order code (8 + count * stride) ++ int64 order time) ⌝ }
 {
     let answered = answer(stride, unit, count, out.len(), place);
     if let Written::Next(_) = answered {

@@ -102,7 +102,9 @@ fn answer(order: Order, code: u32, body: &[u8], whole: usize, place: usize) -> W
     }
 }
 
-// A record written at a place of out. On a refusal out is as it was.
+// Writes a record, its type and its body, as a chunk at a place of out, and answers Next with the place past it.
+// Refused, in this order: PastEnd 2, BadSize 32, Malformed 11 to 15 where the type is known and the body breaks its
+// rule, NoRoom 31. A refused call leaves out as it was. What the chunk does not fill keeps its bytes.
 pub fn write(order: Order, code: u32, body: &[u8], out: &mut [u8], place: usize) -> Written
     ensures said { λ r. ⌜ writtenSaid r ≡ writeOf order code (now (body .entry)) (length (now (out .entry))) place ⌝ }
     ensures left { λ _. ⌜ now (out .exit) ≡ writtenOut order code (now (body .entry)) (now (out .entry)) place ⌝ }

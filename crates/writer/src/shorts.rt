@@ -22,8 +22,10 @@ fn write(
 ) -> Written
     requires { ⌜ 1 ≤ unit ⌝ }
     requires { ⌜ BySize order code unit ⌝ }
-    ensures said { λ r. ⌜ writtenSaid r ≡ writeOf order code (shortBody order time (now (samples .entry))) (length (now (out .entry))) place ⌝ }
-    ensures left { λ _. ⌜ now (out .exit) ≡ writtenOut order code (shortBody order time (now (samples .entry))) (now (out .entry)) place ⌝ }
+    ensures said { λ r. ⌜ writtenSaid r
+        ≡ writeOf order code (shortBody order time (now (samples .entry))) (length (now (out .entry))) place ⌝ }
+    ensures left { λ _. ⌜ now (out .exit)
+        ≡ writtenOut order code (shortBody order time (now (samples .entry))) (now (out .entry)) place ⌝ }
 {
     let count = samples.len();
     let answered = crate::data::begin(order, code, 2, unit, count, time, out, place);
@@ -33,26 +35,36 @@ fn write(
     answered
 }
 
-// SSNC: pairs, I and Q in the stream's packing.
+// Writes an SSNC record from a time in nanoseconds and pairs, I and Q as the stream's SIQP says. Refused as `write` is:
+// an odd count of numbers with 32.
 pub fn ssnc(order: Order, time: i64, samples: &[i16], out: &mut [u8], place: usize) -> Written
-    ensures said { λ r. ⌜ writtenSaid r ≡ writeOf order (codeOf K.SSNC) (shortBody order time (now (samples .entry))) (length (now (out .entry))) place ⌝ }
-    ensures left { λ _. ⌜ now (out .exit) ≡ writtenOut order (codeOf K.SSNC) (shortBody order time (now (samples .entry))) (now (out .entry)) place ⌝ }
+    ensures said { λ r. ⌜ writtenSaid r
+        ≡ writeOf order (codeOf K.SSNC) (shortBody order time (now (samples .entry)))
+        (length (now (out .entry))) place ⌝ }
+    ensures left { λ _. ⌜ now (out .exit)
+        ≡ writtenOut order (codeOf K.SSNC) (shortBody order time (now (samples .entry))) (now (out .entry)) place ⌝ }
 {
     write(order, body::kinds::SSNC, 4, time, samples, out, place)
 }
 
-// SSNR: reals.
+// The same of an SSNR record: reals.
 pub fn ssnr(order: Order, time: i64, samples: &[i16], out: &mut [u8], place: usize) -> Written
-    ensures said { λ r. ⌜ writtenSaid r ≡ writeOf order (codeOf K.SSNR) (shortBody order time (now (samples .entry))) (length (now (out .entry))) place ⌝ }
-    ensures left { λ _. ⌜ now (out .exit) ≡ writtenOut order (codeOf K.SSNR) (shortBody order time (now (samples .entry))) (now (out .entry)) place ⌝ }
+    ensures said { λ r. ⌜ writtenSaid r
+        ≡ writeOf order (codeOf K.SSNR) (shortBody order time (now (samples .entry)))
+        (length (now (out .entry))) place ⌝ }
+    ensures left { λ _. ⌜ now (out .exit)
+        ≡ writtenOut order (codeOf K.SSNR) (shortBody order time (now (samples .entry))) (now (out .entry)) place ⌝ }
 {
     write(order, body::kinds::SSNR, 2, time, samples, out, place)
 }
 
-// GSNC: pairs of a group, its channels interleaved as GIQP says.
+// The same of a GSNC record: the pairs of a group, placed as the stream's GIQP says.
 pub fn gsnc(order: Order, time: i64, samples: &[i16], out: &mut [u8], place: usize) -> Written
-    ensures said { λ r. ⌜ writtenSaid r ≡ writeOf order (codeOf K.GSNC) (shortBody order time (now (samples .entry))) (length (now (out .entry))) place ⌝ }
-    ensures left { λ _. ⌜ now (out .exit) ≡ writtenOut order (codeOf K.GSNC) (shortBody order time (now (samples .entry))) (now (out .entry)) place ⌝ }
+    ensures said { λ r. ⌜ writtenSaid r
+        ≡ writeOf order (codeOf K.GSNC) (shortBody order time (now (samples .entry)))
+        (length (now (out .entry))) place ⌝ }
+    ensures left { λ _. ⌜ now (out .exit)
+        ≡ writtenOut order (codeOf K.GSNC) (shortBody order time (now (samples .entry))) (now (out .entry)) place ⌝ }
 {
     write(order, body::kinds::GSNC, 4, time, samples, out, place)
 }

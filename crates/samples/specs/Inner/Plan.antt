@@ -29,7 +29,8 @@ numberBytes false = 2
 
 -- every pair lies inside so many bytes of numbers of w bytes, or every real
 abbrev pub lies : ℕ → ℕ → Layout → Bool
-lies w size l = pick (l .pairs) (each (λ j. inside w size (placeOf (l .first) (l .step) j)) (l .count)) (leb (l .count * w) size)
+lies w size l =
+    pick (l .pairs) (each (λ j. inside w size (placeOf (l .first) (l .step) j)) (l .count)) (leb (l .count * w) size)
 
 -- the bytes from one place up to another
 abbrev pub part : ℕ → ℕ → List ℕ → List ℕ
@@ -44,7 +45,8 @@ Sound w s (Refused why) = Unit {0}
 abbrev pub Refuses : Answer Layout → Copied → Type 0
 Refuses a why = (n : ℕ) × (a ≡ refuses n) × (copiedSaid why ≡ refuses n)
 
--- what is planned for a chunk at a place and of a size is the layout in its samples, which stand behind its header and its time
+-- what is planned for a chunk at a place and of a size is the layout in its samples, which stand behind its header and
+-- its time
 abbrev pub Plans : Answer Layout → ℕ → ℕ → Planned → Type 0
 Plans a at size (Go l from to) = (a ≡ gives l) × (from ≡ at + frontSize) × (to ≡ at + headerSize + size)
 Plans a at size (Refused why) = Refuses a why
