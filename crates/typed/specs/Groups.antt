@@ -26,8 +26,8 @@ countThen o n rest = bytesOf o 4 (atMost 17 n) ++ rest
 -- row refuses
 unfoldable pub packingBody : Order → GroupPacking → List ℕ
 packingBody o g =
-    countThen o (g .n) (bytesOf o 4 (pick (g .iq) 1 0)
-    ++ (bytesOf o 4 (g .increment) ++ runOf (bytesOf o 4) (take (g .n) (g .offsets))))
+    countThen o (g .n)
+    (bytesOf o 4 (pick (g .iq) 1 0) ++ (bytesOf o 4 (g .increment) ++ runOf (bytesOf o 4) (take (g .n) (g .offsets))))
 
 -- GCF_: the count, the frequencies
 unfoldable pub hertzBody : Order → GroupHertz → List ℕ
