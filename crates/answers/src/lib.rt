@@ -44,7 +44,7 @@ pub fn refusal(number: u32) -> Text
         32 => word(b"the body is too long, or its size is no multiple of 4"),
         33 => word(b"the slice is too short for the samples"),
         34 => word(b"the chunk has no such channel"),
-        35 => word(b"no ready data of this width stands at the cursor"),
+        35 => word(b"no ready data of this width is there"),
         41 => word(b"the file does not begin with a well-formed SOFH"),
         42 => word(b"data or the end of the file comes before a well-formed EOFH"),
         43 => word(b"a second SOFH stands in the file"),

@@ -1,6 +1,6 @@
--- A state put together anew, the empty state, one with other values or another mark, and whether a state is good, its values and its lists, are each one answer.
+-- A state put together rebuilt, the empty state, one with other values or another mark, and whether a state is good, its values and its lists, are each one answer.
 use mathlib.Core.Path.{sym, _∙_}
-use Rattle.state.proofs.State.anew.Reads as anew
+use Rattle.state.proofs.State.rebuilt.Reads as rebuilt
 use Rattle.state.proofs.State.empty.Reads as empty
 use Rattle.state.proofs.State.with_values.Reads as with_values
 use Rattle.state.proofs.State.with_mark.Reads as with_mark
@@ -8,8 +8,8 @@ use Rattle.state.proofs.Values.good_values.Reads as good_values
 use Rattle.state.proofs.Values.good_lists.Reads as good_lists
 use Rattle.claims.proofs.Promise.{OneAnswer}
 
-pub anew-one-answer : OneAnswer anew.Post
-anew-one-answer κs a r r′ s s′ p q = p ∙ sym q
+pub rebuilt-one-answer : OneAnswer rebuilt.Post
+rebuilt-one-answer κs a r r′ s s′ p q = p ∙ sym q
 
 pub empty-one-answer : OneAnswer empty.Post
 empty-one-answer κs a r r′ s s′ p q = p ∙ sym q

@@ -26,20 +26,20 @@ use Rattle.effect.specs.declared.ready.Judged.{Judged}
 use Rattle.effect.specs.declared.Verdict.{Verdict}
 
 -- an answer that shows nothing is the effect of a chunk that is no data
-pub met-took : {A : Type 0} {r : Taken} {v : Verdict} {next : State} (a : Answer A) (n : State) →
+pub met-is-effect : {A : Type 0} {r : Taken} {v : Verdict} {next : State} (a : Answer A) (n : State) →
     (r .verdict ≡ v) × (r .shown ≡ noState) × (r .state ≡ next) → verdictSaid v ≡ judged a → next ≡ n → IsEffect r (met a n)
-met-took a n h e q = record { says = ap verdictSaid (h .0) ∙ e; shown = h .1; after = h .2 ∙ q }
+met-is-effect a n h e q = record { says = ap verdictSaid (h .0) ∙ e; shown = h .1; after = h .2 ∙ q }
 
 -- one that puts a value into its slot is the effect of a chunk that sets it
-pub set-took : {A : Type 0} {r : Taken} {v : Verdict} (x : Slot) (hold : A → Value x) (a : Answer A) (s : State) {value : Value x} →
+pub set-is-effect : {A : Type 0} {r : Taken} {v : Verdict} (x : Slot) (hold : A → Value x) (a : Answer A) (s : State) {value : Value x} →
     (r .verdict ≡ v) × (r .shown ≡ noState) × (r .state ≡ withValues s (setIn x value (s .values))) → verdictSaid v ≡ judged a → value ≡ orElse (none x) hold a →
     IsEffect r (met a (withValues s (setIn x (orElse (none x) hold a) (s .values))))
-set-took x hold a s h e q = met-took a _ h e (ap (λ y. withValues s (setIn x y (s .values))) q)
+set-is-effect x hold a s h e q = met-is-effect a _ h e (ap (λ y. withValues s (setIn x y (s .values))) q)
 
 -- an answer to what is said of a data chunk is its effect
-pub data-took : {r : Taken} {says : Says} {j k : Judged} (s : State) (g : Bool) → j ≡ k →
+pub data-is-effect : {r : Taken} {says : Says} {j k : Judged} (s : State) (g : Bool) → j ≡ k →
     (verdictSaid (k .verdict) ≡ says) × (k .group ≡ g) → IsEffect r (dataEffect (verdictSaid (j .verdict)) (pick (j .group) (inGroup (s .values)) (s .values)) s) → IsEffect r (dataEffect says (pick g (inGroup (s .values)) (s .values)) s)
-data-took s g e p h = rw (← p .0, ← p .1, ← e) h
+data-is-effect s g e p h = rw (← p .0, ← p .1, ← e) h
 
 judged-checked : {A : Type 0} (k : Checked) (v : A) → judged (checkedSaid k (tt {0})) ≡ judged (checkedSaid k v)
 judged-checked Good v = refl

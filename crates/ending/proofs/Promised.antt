@@ -22,12 +22,12 @@ use Rattle.ending.proofs.Accepted.{searching-fit}
 use Rattle.ending.proofs.Calls.{NewCall, new-met, StepCall, ShortsCall, shortsOf, shorts-met, PatternsCall, patternsOf, patterns-met}
 use Rattle.ending.proofs.Copied.{SameCopies}
 use Rattle.ending.proofs.Theorems.{givenFrom, as-alone, ending-alone, alone-first, same-samples, clean-beginning-first}
-use Rattle.ending.proofs.Runs.{came, Run, run-after, run-took, runItems, run-reads, SameAnswers, CopyOn, same-copy}
+use Rattle.ending.proofs.Runs.{came, Run, run-after, run-is-step, runItems, run-reads, SameAnswers, CopyOn, same-copy}
 
 -- each answer from the first accepted chunk on is the step of the ending alone, its place as far on as the beginning is long
 pub run-ending : (o : Order) (x l : List ℕ) (c : Cursor) → AcceptsFirstAt o (x ++ l) c (length x) → (m : ℕ) (calls : ℕ → StepCall) → Run m o (x ++ l) c calls →
     (k : ℕ) → lead (length x) c + k < m → IsStep (calls (lead (length x) c + k) .result) (stepCounted (onto (length x)) (stepOf o l (after k o l newCursor)))
-run-ending o x l c f m calls r k i = rw (← as-alone o x l c f k .step) (run-took m o (x ++ l) c calls r (lead (length x) c + k) i)
+run-ending o x l c f m calls r k i = rw (← as-alone o x l c f k .step) (run-is-step m o (x ++ l) c calls r (lead (length x) c + k) i)
 
 -- ---- two runs, in streams with one ending, in which the first chunk that each reader accepts begins the ending
 

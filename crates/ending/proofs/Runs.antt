@@ -42,8 +42,8 @@ module _ (n : ℕ) (o : Order) (s : List ℕ) (c : Cursor) (calls : ℕ → Step
   run-after zero h = refl
   run-after (suc k) h = took k (omega arith) .cursor ∙ ap (λ (d : Cursor). stepOf o s d .cursor) (run-after k (omega arith)) ∙ sym (after-suc k o s c)
 
-  pub run-took : (k : ℕ) → k < n → IsStep (calls k .result) (stepOf o s (after k o s c))
-  run-took k h = rw (← run-after k (omega arith)) (took k h)
+  pub run-is-step : (k : ℕ) → k < n → IsStep (calls k .result) (stepOf o s (after k o s c))
+  run-is-step k h = rw (← run-after k (omega arith)) (took k h)
 
 -- the items that a run's answers give, up to End or a refusal
 unfoldable pub runItems : ℕ → (ℕ → StepCall) → List Given

@@ -77,9 +77,9 @@ module _ (o : Order) (s : List ℕ) (at code size : ℕ) (e : shows o (drop at s
   chunk-size = length-take-le size (drop 12 (drop at s)) (simp length-drop (omega (arith, chunk-ends)))
 
 -- an answer that shows nothing and leaves the cursor
-pub still-took : {r : Stepped} {i : declared.Item} {c : Cursor} → (r .item ≡ i) × (r .shown ≡ noState) × (r .cursor ≡ c) →
+pub still-is-step : {r : Stepped} {i : declared.Item} {c : Cursor} → (r .item ≡ i) × (r .shown ≡ noState) × (r .cursor ≡ c) →
     IsStep r (record { item = itemSaid i; shown = noState; cursor = c })
-still-took h = record { item = ap itemSaid (h .0); shown = h .1; cursor = h .2 }
+still-is-step h = record { item = ap itemSaid (h .0); shown = h .1; cursor = h .2 }
 
 -- what holds of what is made of every chunk, and of what is made of every other item, holds of what is made of an item
 pub of-chunk : {A : Type 0} (P : A → Type 0) (other : A) (g : ℕ → ℕ → ℕ → Says → A) (i : Item) → P other → ((p code size : ℕ) (says : Says) → P (g p code size says)) →
@@ -133,7 +133,7 @@ placed-end f (skipped p n) = refl
 placed-end f (unfinished p n) = refl
 placed-end f (chunk p code size says) = refl
 
--- counted anew and back, an item is what it was
+-- counted rebuilt and back, an item is what it was
 pub placed-back : (f g : ℕ → ℕ) → ((k : ℕ) → f (g k) ≡ k) → (i : Item) → placedBy f (placedBy g i) ≡ i
 placed-back f g h end = refl
 placed-back f g h (skipped p n) = rw (h p)

@@ -10,7 +10,7 @@ use lib.Dec.{ltb}
 use lib.ListN.{length, take, drop}
 use lib.Seq.{drop-drop}
 use borrow.Author.Tests.{le-leb, lt-leb}
-use Rattle.num.specs.Answer.{Answer, gives, refuses}
+use Rattle.num.specs.Answer.{gives}
 use Rattle.num.specs.Choice.{pick}
 use Rattle.num.specs.declared.Order.{Order}
 use Rattle.frame.specs.Ahead.{aheadOf}
@@ -20,7 +20,7 @@ use Rattle.frame.proofs.Looks.{is-chunk}
 use Rattle.body.specs.Kind.{kindOf}
 use Rattle.effect.specs.Effect.{effect}
 use Rattle.effect.specs.Says.{Says}
-use Rattle.reader.specs.Item.{Item, chunk, itemSaid}
+use Rattle.reader.specs.Item.{chunk, itemSaid}
 use Rattle.reader.specs.Part.{bodyAt, bodyIn}
 use Rattle.reader.specs.Step.{before, refused, stepBy, stepOf}
 use Rattle.reader.specs.declared.Cursor.{Cursor}

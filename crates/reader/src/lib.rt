@@ -130,14 +130,14 @@ impl Cursor {
     }
 
     // The same cursor, its state rebuilt field by field, so that the compiler copies no padding.
-    fn anew(self) -> Self
+    fn rebuilt(self) -> Self
         ensures { λ r. ⌜ r ≡ self ⌝ }
     {
         let state = self.state;
         Cursor {
             place: self.place,
             in_step: self.in_step,
-            state: state.anew(),
+            state: state.rebuilt(),
         }
     }
 
@@ -147,7 +147,7 @@ impl Cursor {
     pub fn step(self, order: Order, s: &[u8]) -> Stepped
         ensures { λ r. ⌜ IsStep r (stepOf order (now (s .entry)) self) ⌝ }
     {
-        let cursor = self.anew();
+        let cursor = self.rebuilt();
         cursor.go_on(order, s)
     }
 

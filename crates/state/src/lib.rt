@@ -44,7 +44,7 @@ pub struct State {
     pub mark: bool,
 }
 
-fn number_anew(h: Held) -> Held
+fn number_rebuilt(h: Held) -> Held
     ensures { λ r. ⌜ r ≡ h ⌝ }
 {
     Held {
@@ -53,7 +53,7 @@ fn number_anew(h: Held) -> Held
     }
 }
 
-fn band_anew(b: BandHeld) -> BandHeld
+fn band_rebuilt(b: BandHeld) -> BandHeld
     ensures { λ r. ⌜ r ≡ b ⌝ }
 {
     BandHeld {
@@ -63,7 +63,7 @@ fn band_anew(b: BandHeld) -> BandHeld
     }
 }
 
-fn level_anew(x: LevelHeld) -> LevelHeld
+fn level_rebuilt(x: LevelHeld) -> LevelHeld
     ensures { λ r. ⌜ r ≡ x ⌝ }
 {
     LevelHeld {
@@ -72,7 +72,7 @@ fn level_anew(x: LevelHeld) -> LevelHeld
     }
 }
 
-fn packing_anew(g: GroupPacking) -> GroupPacking
+fn packing_rebuilt(g: GroupPacking) -> GroupPacking
     ensures { λ r. ⌜ r ≡ g ⌝ }
 {
     let offsets = g.offsets;
@@ -87,21 +87,21 @@ fn packing_anew(g: GroupPacking) -> GroupPacking
 impl Values {
     // The same values, rebuilt field by field. A struct that is copied whole and then read field by field has its
     // padding copied too, in small pieces; of this copy the compiler moves the fields alone.
-    fn anew(self) -> Self
+    fn rebuilt(self) -> Self
         ensures { λ r. ⌜ r ≡ self ⌝ }
     {
         let frequencies = self.frequencies;
         let gains = self.gains;
         Values {
-            packing: number_anew(self.packing),
-            rate: number_anew(self.rate),
-            band: band_anew(self.band),
-            group_band: number_anew(self.group_band),
-            centre: number_anew(self.centre),
-            full_scale: level_anew(self.full_scale),
-            total_gain: level_anew(self.total_gain),
-            float_scale: level_anew(self.float_scale),
-            group: packing_anew(self.group),
+            packing: number_rebuilt(self.packing),
+            rate: number_rebuilt(self.rate),
+            band: band_rebuilt(self.band),
+            group_band: number_rebuilt(self.group_band),
+            centre: number_rebuilt(self.centre),
+            full_scale: level_rebuilt(self.full_scale),
+            total_gain: level_rebuilt(self.total_gain),
+            float_scale: level_rebuilt(self.float_scale),
+            group: packing_rebuilt(self.group),
             frequencies,
             gains,
         }
@@ -129,12 +129,12 @@ impl Values {
 
 impl State {
     // The same state, rebuilt field by field, so that the compiler copies no padding.
-    pub fn anew(self) -> Self
+    pub fn rebuilt(self) -> Self
         ensures { λ r. ⌜ r ≡ self ⌝ }
     {
         let values = self.values;
         State {
-            values: values.anew(),
+            values: values.rebuilt(),
             mark: self.mark,
         }
     }

@@ -3,9 +3,6 @@ use Rattle.answers.proofs.Told.{by-number, copied-refused}
 use borrow.Author.Needs.{needs}
 use Rattle.answers.proofs.copied.Statement.{statement}
 use Rattle.answers.proofs.copied.Tie as tie
-use Rattle.answers.proofs.refusal.Reads as refusal-reads
-use Rattle.listing.proofs.string.word.Reads as word-reads
-use Rattle.samples.proofs.Copied.number.Reads as number-reads
 
 enum-told : tie.Need-enum-told
 enum-told c = search needs

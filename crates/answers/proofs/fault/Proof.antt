@@ -4,8 +4,6 @@ use Rattle.answers.proofs.Told.{by-number}
 use borrow.Author.Needs.{needs}
 use Rattle.answers.proofs.fault.Statement.{statement}
 use Rattle.answers.proofs.fault.Tie as tie
-use Rattle.answers.proofs.refusal.Reads as refusal-reads
-use Rattle.body.proofs.faults.Fault.number.Reads as number-reads
 
 number-requires : tie.Need-number-requires
 number-requires c κs = search needs

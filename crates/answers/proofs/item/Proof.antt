@@ -3,10 +3,6 @@ use Rattle.answers.proofs.Told.{by-number, item-refused}
 use borrow.Author.Needs.{needs}
 use Rattle.answers.proofs.item.Statement.{statement}
 use Rattle.answers.proofs.item.Tie as tie
-use Rattle.answers.proofs.refusal.Reads as refusal-reads
-use Rattle.answers.proofs.verdict.Reads as verdict-reads
-use Rattle.listing.proofs.string.word.Reads as word-reads
-use Rattle.reader.proofs.Item.number.Reads as number-reads
 
 number-requires : tie.Need-number-requires
 number-requires c κs = search needs

@@ -3,9 +3,6 @@ use Rattle.answers.proofs.Told.{by-number}
 use borrow.Author.Needs.{needs}
 use Rattle.answers.proofs.order.Statement.{statement}
 use Rattle.answers.proofs.order.Tie as tie
-use Rattle.answers.proofs.refusal.Reads as refusal-reads
-use Rattle.frame.proofs.OrderFound.number.Reads as number-reads
-use Rattle.listing.proofs.string.word.Reads as word-reads
 
 enum-known-found : tie.Need-enum-known-found
 enum-known-found c = search needs

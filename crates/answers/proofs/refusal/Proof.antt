@@ -6,7 +6,6 @@ use Rattle.answers.specs.Refusals.{rows, textIn, refusalText}
 use Rattle.answers.proofs.Rows.{no-text}
 use Rattle.answers.proofs.refusal.Statement.{statement}
 use Rattle.answers.proofs.refusal.Tie as tie
-use Rattle.listing.proofs.string.word.Reads as word-reads
 
 slice-aggregate-word : tie.Need-slice-aggregate-word
 slice-aggregate-word c = search needs

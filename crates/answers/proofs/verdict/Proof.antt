@@ -3,9 +3,6 @@ use Rattle.answers.proofs.Told.{by-number, verdict-refused}
 use borrow.Author.Needs.{needs}
 use Rattle.answers.proofs.verdict.Statement.{statement}
 use Rattle.answers.proofs.verdict.Tie as tie
-use Rattle.answers.proofs.refusal.Reads as refusal-reads
-use Rattle.effect.proofs.Verdict.number.Reads as number-reads
-use Rattle.listing.proofs.string.word.Reads as word-reads
 
 enum-told : tie.Need-enum-told
 enum-told c = search needs

@@ -3,9 +3,6 @@ use Rattle.answers.proofs.Told.{by-number, written-refused}
 use borrow.Author.Needs.{needs}
 use Rattle.answers.proofs.written.Statement.{statement}
 use Rattle.answers.proofs.written.Tie as tie
-use Rattle.answers.proofs.refusal.Reads as refusal-reads
-use Rattle.listing.proofs.string.word.Reads as word-reads
-use Rattle.writer.proofs.Written.number.Reads as number-reads
 
 enum-told : tie.Need-enum-told
 enum-told c = search needs

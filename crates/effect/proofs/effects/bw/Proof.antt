@@ -6,7 +6,7 @@ use Rattle.body.specs.Table.{band}
 use Rattle.body.specs.Values.{noBand, centred}
 use Rattle.effect.specs.Says.{judged}
 use Rattle.effect.specs.Effect.{effect}
-use Rattle.effect.proofs.Laws.{set-took}
+use Rattle.effect.proofs.Laws.{set-is-effect}
 use borrow.Author.Needs.{needs}
 use Rattle.effect.proofs.effects.bw.Statement.{statement}
 use Rattle.effect.proofs.effects.bw.Tie as tie
@@ -28,7 +28,7 @@ unfolding effect
 returns c =
     let a = c .before .before .before .before .before .before .args in
     let e = c .before .before .before .before .bw .ensures in
-    set-took band centred (bw (a .order) (a .body .now)) (a .was) (c .set .ensures)
+    set-is-effect band centred (bw (a .order) (a .body .now)) (a .was) (c .set .ensures)
     (c .before .of-number .ensures ∙ ap judged e)
     (c .before .before .before .centred .ensures ∙ ap (orElse noBand centred) e)
 

@@ -6,7 +6,7 @@ use Rattle.body.specs.Table.{band}
 use Rattle.body.specs.Values.{noBand, banded}
 use Rattle.effect.specs.Says.{judged}
 use Rattle.effect.specs.Effect.{effect}
-use Rattle.effect.proofs.Laws.{set-took}
+use Rattle.effect.proofs.Laws.{set-is-effect}
 use borrow.Author.Needs.{needs}
 use Rattle.effect.proofs.effects.bwof.Statement.{statement}
 use Rattle.effect.proofs.effects.bwof.Tie as tie
@@ -28,7 +28,7 @@ unfolding effect
 returns c =
     let a = c .before .before .before .before .before .before .args in
     let e = c .before .before .before .before .bwof .ensures in
-    set-took band banded (bwof (a .order) (a .body .now)) (a .was) (c .set .ensures)
+    set-is-effect band banded (bwof (a .order) (a .body .now)) (a .was) (c .set .ensures)
     (c .before .of-band .ensures ∙ ap judged e)
     (c .before .before .before .banded .ensures ∙ ap (orElse noBand banded) e)
 

@@ -6,7 +6,7 @@ use Rattle.body.specs.Table.{centre}
 use Rattle.body.specs.Values.{noNumber, number}
 use Rattle.effect.specs.Says.{judged}
 use Rattle.effect.specs.Effect.{effect}
-use Rattle.effect.proofs.Laws.{set-took}
+use Rattle.effect.proofs.Laws.{set-is-effect}
 use borrow.Author.Needs.{needs}
 use Rattle.effect.proofs.effects.cf.Statement.{statement}
 use Rattle.effect.proofs.effects.cf.Tie as tie
@@ -28,7 +28,7 @@ unfolding effect
 returns c =
     let a = c .before .before .before .before .before .before .args in
     let e = c .before .before .before .before .cf .ensures in
-    set-took centre number (cf (a .order) (a .body .now)) (a .was) (c .set .ensures)
+    set-is-effect centre number (cf (a .order) (a .body .now)) (a .was) (c .set .ensures)
     (c .before .of-number .ensures ∙ ap judged e)
     (c .before .before .before .held .ensures ∙ ap (orElse noNumber number) e)
 

@@ -6,7 +6,7 @@ use Rattle.body.specs.Table.{floatScale}
 use Rattle.body.specs.Values.{noLevel, levelled}
 use Rattle.effect.specs.Says.{judged}
 use Rattle.effect.specs.Effect.{effect}
-use Rattle.effect.proofs.Laws.{set-took}
+use Rattle.effect.proofs.Laws.{set-is-effect}
 use borrow.Author.Needs.{needs}
 use Rattle.effect.proofs.effects.ffs.Statement.{statement}
 use Rattle.effect.proofs.effects.ffs.Tie as tie
@@ -28,7 +28,7 @@ unfolding effect
 returns c =
     let a = c .before .before .before .before .before .before .args in
     let e = c .before .before .before .before .ffs .ensures in
-    set-took floatScale levelled (ffs (a .order) (a .body .now)) (a .was) (c .set .ensures)
+    set-is-effect floatScale levelled (ffs (a .order) (a .body .now)) (a .was) (c .set .ensures)
     (c .before .of-level .ensures ∙ ap judged e)
     (c .before .before .before .levelled .ensures ∙ ap (orElse noLevel levelled) e)
 

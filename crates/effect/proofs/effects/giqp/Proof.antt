@@ -3,7 +3,7 @@ use mathlib.Core.Path.{ap, _∙_}
 use Rattle.body.specs.Groups.{giqp}
 use Rattle.body.specs.Table.{group}
 use Rattle.effect.specs.Effect.{effect}
-use Rattle.effect.proofs.Laws.{set-took, read-judged}
+use Rattle.effect.proofs.Laws.{set-is-effect, read-judged}
 use borrow.Author.Needs.{needs}
 use Rattle.effect.proofs.effects.giqp.Statement.{statement}
 use Rattle.effect.proofs.effects.giqp.Tie as tie
@@ -22,7 +22,7 @@ unfolding effect
 returns c =
     let a = c .before .before .before .before .before .before .args in
     let e = c .before .before .before .before .giqp .ensures in
-    set-took group (λ g. g) (giqp (a .order) (a .body .now)) (a .was) (c .set .ensures)
+    set-is-effect group (λ g. g) (giqp (a .order) (a .body .now)) (a .was) (c .set .ensures)
     (c .before .of-checked .ensures ∙ read-judged e)
     (e .holds)
 

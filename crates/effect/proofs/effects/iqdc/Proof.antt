@@ -5,7 +5,7 @@ use Rattle.body.specs.Plain.{empty}
 use Rattle.state.specs.State.{withMark}
 use Rattle.effect.specs.Says.{judged}
 use Rattle.effect.specs.Effect.{marked, effect}
-use Rattle.effect.proofs.Laws.{met-took}
+use Rattle.effect.proofs.Laws.{met-is-effect}
 use borrow.Author.Needs.{needs}
 use Rattle.effect.proofs.effects.iqdc.Statement.{statement}
 use Rattle.effect.proofs.effects.iqdc.Tie as tie
@@ -30,7 +30,7 @@ unfolding effect
 returns c =
     let a = c .before .before .before .before .before .before .args in
     let e = c .before .before .before .before .empty .ensures in
-    met-took (empty (a .body .now)) (withMark (a .was) (marked (empty (a .body .now)) (a .was .mark))) (c .met .ensures)
+    met-is-effect (empty (a .body .now)) (withMark (a .was) (marked (empty (a .body .now)) (a .was .mark))) (c .met .ensures)
     (c .before .before .of-checked .ensures ∙ ap judged e)
     (c .before .with-mark .ensures ∙ ap (withMark (a .was)) (c .before .before .before .marked .ensures ∙ ap (λ (x : Answer (Unit {0})). marked x (a .was .mark)) e))
 

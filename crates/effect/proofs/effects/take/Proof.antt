@@ -6,7 +6,7 @@ use Rattle.body.specs.Numbers.{sofh}
 use Rattle.body.specs.Plain.{empty, text}
 use Rattle.effect.specs.Says.{verdictSaid, judged}
 use Rattle.effect.specs.Effect.{effect}
-use Rattle.effect.proofs.Laws.{met-took, data-took}
+use Rattle.effect.proofs.Laws.{met-is-effect, data-is-effect}
 use borrow.Author.Needs.{needs}
 use Rattle.effect.proofs.effects.take.Statement.{statement}
 use Rattle.effect.proofs.effects.take.Tie as tie
@@ -190,7 +190,7 @@ unfolding effect
 returns-13 c =
     let a = c .before .before .before .before .before .before .before .args in
     rw (c .before .before .before .enum-told19 .given .1)
-    (met-took (sofh (a .order) (a .body .now)) (a .was) (c .met .ensures) (c .before .of-number .ensures ∙ ap judged (c .before .before .sofh .ensures)) refl)
+    (met-is-effect (sofh (a .order) (a .body .now)) (a .was) (c .met .ensures) (c .before .of-number .ensures ∙ ap judged (c .before .before .sofh .ensures)) refl)
 
 enum-told-20 : tie.Need-enum-told-20
 enum-told-20 c = search needs
@@ -209,7 +209,7 @@ unfolding effect
 returns-14 c =
     let a = c .before .before .before .before .before .before .before .args in
     rw (c .before .before .before .enum-told20 .given .1)
-    (met-took (empty (a .body .now)) (a .was) (c .met2 .ensures) (c .before .of-checked .ensures ∙ ap judged (c .before .before .empty .ensures)) refl)
+    (met-is-effect (empty (a .body .now)) (a .was) (c .met2 .ensures) (c .before .of-checked .ensures ∙ ap judged (c .before .before .empty .ensures)) refl)
 
 enum-told-21 : tie.Need-enum-told-21
 enum-told-21 c = search needs
@@ -237,7 +237,7 @@ unfolding effect
 returns-16 c =
     let a = c .before .before .before .before .before .before .before .args in
     rw (c .before .before .before .enum-told22 .given .1)
-    (met-took (text (a .order) (a .body .now)) (a .was) (c .met3 .ensures) (c .before .of-text .ensures ∙ ap judged (c .before .before .text .ensures)) refl)
+    (met-is-effect (text (a .order) (a .body .now)) (a .was) (c .met3 .ensures) (c .before .of-text .ensures ∙ ap judged (c .before .before .text .ensures)) refl)
 
 enum-told-23 : tie.Need-enum-told-23
 enum-told-23 c = search needs
@@ -261,16 +261,16 @@ returns-18 c =
     let t = c .data-effect .ensures in
     let s = c .before .before .before .before .args .was in
     ⊎-elim
-    (λ k. rw (k .1 .given .1, ← k .2 .ensures) (data-took s false (k .4) (k .3 .ensures) t))
+    (λ k. rw (k .1 .given .1, ← k .2 .ensures) (data-is-effect s false (k .4) (k .3 .ensures) t))
     (⊎-elim
-    (λ k. rw (k .1 .given .1, ← k .2 .ensures) (data-took s false (k .4) (k .3 .ensures) t))
+    (λ k. rw (k .1 .given .1, ← k .2 .ensures) (data-is-effect s false (k .4) (k .3 .ensures) t))
     (⊎-elim
-    (λ k. rw (k .1 .given .1, ← k .2 .ensures) (data-took s false (k .4) (k .3 .ensures) t))
+    (λ k. rw (k .1 .given .1, ← k .2 .ensures) (data-is-effect s false (k .4) (k .3 .ensures) t))
     (⊎-elim
-    (λ k. rw (k .1 .given .1, ← k .2 .ensures) (data-took s false (k .4) (k .3 .ensures) t))
+    (λ k. rw (k .1 .given .1, ← k .2 .ensures) (data-is-effect s false (k .4) (k .3 .ensures) t))
     (⊎-elim
-    (λ k. rw (k .1 .given .1, ← k .2 .ensures) (data-took s true (k .4) (k .3 .ensures) t))
-    (λ k. rw (k .1 .given .1, ← k .2 .ensures) (data-took s true (k .4) (k .3 .ensures) t))))))
+    (λ k. rw (k .1 .given .1, ← k .2 .ensures) (data-is-effect s true (k .4) (k .3 .ensures) t))
+    (λ k. rw (k .1 .given .1, ← k .2 .ensures) (data-is-effect s true (k .4) (k .3 .ensures) t))))))
     (c .before .match .came)
 
 pub take-spec : {M : Type 1} → statement M

@@ -9,7 +9,7 @@ use Rattle.frame.specs.declared.At.the-variants.{Complete}
 use Rattle.frame.proofs.Looks.{is-chunk}
 use Rattle.state.specs.Good.{goodState}
 use Rattle.reader.specs.Step.{stepBy, stepOf}
-use Rattle.reader.proofs.Laws.{unfit, step-past, step-unfit, step-ahead, still-took, chunk-ends, chunk-body, chunk-size}
+use Rattle.reader.proofs.Laws.{unfit, step-past, step-unfit, step-ahead, still-is-step, chunk-ends, chunk-body, chunk-size}
 use borrow.Author.Needs.{needs}
 use Rattle.reader.proofs.Cursor.go_on.Statement.{statement}
 use Rattle.reader.proofs.Cursor.go_on.Tie as tie
@@ -20,7 +20,7 @@ still-requires c κs = search needs
 returns : tie.Need-returns
 returns c =
     let a = c .before .before .before .args in
-    rw (step-past (a .order) (a .s .now) (a .self) (c .before .if1 .taken)) (still-took (c .still .ensures))
+    rw (step-past (a .order) (a .s .now) (a .self) (c .before .if1 .taken)) (still-is-step (c .still .ensures))
 
 good-values-requires : tie.Need-good-values-requires
 good-values-requires c κs = search needs
@@ -39,7 +39,7 @@ returns-2 : tie.Need-returns-2
 returns-2 c =
     let a = c .before .before .before .before .before .before .before .before .args in
     let k : unfit (a .self) ≡ true = rw (halves (c .before .before .before)) (c .before .if2 .taken) in
-    rw (step-unfit (a .order) (a .s .now) (a .self) (c .before .before .before .before .before .before .if1 .left) k) (still-took (c .still2 .ensures))
+    rw (step-unfit (a .order) (a .s .now) (a .self) (c .before .before .before .before .before .before .if1 .left) k) (still-is-step (c .still2 .ensures))
 
 -- past the test of number 3, it is not due
 fit : (c : tie.Else2) → unfit (c .before .before .before .before .before .before .before .args .self) ≡ false
@@ -118,7 +118,7 @@ skip-requires : tie.Need-skip-requires
 skip-requires c κs = search needs
 
 returns-3 : tie.Need-returns-3
-returns-3 c = rw (ahead (c .before .before .before), c .before .enum-told .given .1) (still-took (c .still3 .ensures))
+returns-3 c = rw (ahead (c .before .before .before), c .before .enum-told .given .1) (still-is-step (c .still3 .ensures))
 
 returns-4 : tie.Need-returns-4
 returns-4 c =

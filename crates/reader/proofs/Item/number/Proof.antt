@@ -2,7 +2,6 @@
 use borrow.Author.Needs.{needs}
 use Rattle.reader.proofs.Item.number.Statement.{statement}
 use Rattle.reader.proofs.Item.number.Tie as tie
-use Rattle.effect.proofs.Verdict.number.Reads as number-reads
 
 enum-told : tie.Need-enum-told
 enum-told c = search needs

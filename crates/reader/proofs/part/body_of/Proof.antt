@@ -4,7 +4,6 @@ use Rattle.reader.proofs.Parts.{no-body}
 use borrow.Author.Needs.{needs}
 use Rattle.reader.proofs.part.body_of.Statement.{statement}
 use Rattle.reader.proofs.part.body_of.Tie as tie
-use Rattle.reader.proofs.part.body_at.Reads as body-at-reads
 
 enum-known-item : tie.Need-enum-known-item
 enum-known-item c = search needs
