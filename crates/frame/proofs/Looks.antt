@@ -12,6 +12,7 @@ use Rattle.frame.specs.Place.{starts, shows, stops}
 use Rattle.frame.specs.Frames.{Frame, chunk, skipped, unfinished, ofChunk}
 use Rattle.frame.specs.Frames as Frames
 use Rattle.frame.specs.Ahead.{aheadBy, aheadOf, isChunk}
+use Rattle.frame.specs.Ahead as Ahead
 use Rattle.frame.specs.declared.At.{At}
 use Rattle.frame.specs.declared.At.the-variants.{NoSync, Bad, Unfinished, Complete}
 use Rattle.frame.specs.declared.Ahead.{Ahead}
@@ -87,6 +88,20 @@ other-told End e = refl
 other-told Stretch e = refl
 other-told Cut e = refl
 other-told (Chunk code size) e = absurd (miss (0 ∷ 1 ∷ 2 ∷ []) 3 tt e)
+
+-- a chunk is ahead, or none is: what holds of both holds of all that can be ahead
+pub ahead-by : (P : Ahead → Type 0) → ((code size : ℕ) → P (Chunk code size)) → ((a : Ahead) → isChunk a ≡ false → P a) → (a : Ahead) → P a
+ahead-by P k h End = h End refl
+ahead-by P k h Stretch = h Stretch refl
+ahead-by P k h Cut = h Cut refl
+ahead-by P k h (Chunk code size) = k code size
+
+-- what is made where no chunk is ahead
+pub other-ahead : {A : Type 0} (other : A) (g : ℕ → ℕ → A) (a : Ahead) → isChunk a ≡ false → Ahead.ofChunk other g a ≡ other
+other-ahead other g End e = refl
+other-ahead other g Stretch e = refl
+other-ahead other g Cut e = refl
+other-ahead other g (Chunk code size) e = let z : _≡_ {A = ℕ} 0 1 = cc in absurd (omega arith)
 
 -- what holds of what is made of every chunk, and of what is made of every other frame, holds of what is made of a frame
 pub of-chunk : {A : Type 0} (P : A → Type 0) (other : A) (g : ℕ → List ℕ → A) (f : Frame) → P other → ((code : ℕ) (body : List ℕ) → P (g code body)) → P (ofChunk other g f)

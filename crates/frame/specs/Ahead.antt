@@ -20,8 +20,12 @@ abbrev pub aheadOf : Order → List ℕ → Ahead
 aheadOf o [] = End
 aheadOf o (x ∷ l) = aheadBy (shows o (x ∷ l))
 
+-- what is made of a chunk that is ahead, by its type and its size; of every other case the same is made
+abbrev pub ofChunk {ℓ} : {A : Type ℓ} → A → (ℕ → ℕ → A) → Ahead → A
+ofChunk other f End = other
+ofChunk other f Stretch = other
+ofChunk other f Cut = other
+ofChunk other f (Chunk code size) = f code size
+
 abbrev pub isChunk : Ahead → Bool
-isChunk End = false
-isChunk Stretch = false
-isChunk Cut = false
-isChunk (Chunk code size) = true
+isChunk a = ofChunk false (λ code size. true) a

@@ -15,6 +15,7 @@ use Rattle.num.specs.Choice.{both}
 use Rattle.num.specs.declared.Order.{Order}
 use Rattle.frame.specs.Place.{shows, stops, gap}
 use Rattle.frame.specs.Ahead.{aheadOf}
+use Rattle.frame.specs.Ahead as Ahead
 use Rattle.frame.specs.declared.At.the-variants.{Complete}
 use Rattle.frame.specs.declared.Ahead.{Ahead}
 use Rattle.frame.specs.declared.Ahead.the-variants.{End, Stretch, Cut, Chunk}
@@ -112,6 +113,13 @@ no-chunk-told variants.End e = inr (end, refl, refl)
 no-chunk-told (variants.Skipped p n) e = inr (skipped p n, refl, refl)
 no-chunk-told (variants.Unfinished p n) e = inr (unfinished p n, refl, refl)
 no-chunk-told (variants.Chunk p code size v) e = absurd (miss (0 ∷ 1 ∷ 2 ∷ 3 ∷ 4 ∷ []) 5 tt e)
+
+-- where no chunk is ahead a step gives an item that is no chunk
+pub gives-other : (o : Order) (l : List ℕ) (c : Cursor) (a : Ahead) → Ahead.isChunk a ≡ false → (i : Item) × (stepBy o l c a .item ≡ gives i) × (isChunk i ≡ false)
+gives-other o l c End e = (end, refl, refl)
+gives-other o l c Stretch e = (skipped (c .place) (gap o l), refl, refl)
+gives-other o l c Cut e = (unfinished (c .place) (length l), refl, refl)
+gives-other o l c (Chunk code size) e = let z : _≡_ {A = ℕ} 0 1 = cc in absurd (omega arith)
 
 -- before the end a step gives an item that is not the end
 pub gives-on : (o : Order) (l : List ℕ) (c : Cursor) (a : Ahead) → (a ≡ End → ⊥) → (i : Item) × (stepBy o l c a .item ≡ gives i) × (isEnd i ≡ false)

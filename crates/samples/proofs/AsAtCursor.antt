@@ -1,24 +1,26 @@
 -- Copying what a step gave is copying at the cursor that the step was made from.
-use Prim.Native.Nat.{ℕ}
+use Prim.Native.Nat.{ℕ, _-_}
 use mathlib.Core.Path.{_≡_, refl, sym, ap, _∙_}
 use mathlib.Core.Bool.{Bool, true, false}
-use mathlib.Core.List.{List}
+use mathlib.Core.List.{List, []}
 use native.Mathlib.Omega.{arith}
 use lib.IntN.{ℤ}
 use lib.ListN.{length, take, drop}
 use contract.Lifetimes.{Lfts}
 use denote.Ref.{RefT}
 use Rattle.num.specs.Answer.{gives, refuses}
+use Rattle.num.specs.Choice.{pick}
 use Rattle.num.specs.declared.Order.{Order}
 use Rattle.body.specs.Kind.{kindOf}
 use Rattle.copy.specs.Samples.{shortAt, patternAt}
 use Rattle.effect.specs.Says.{Says, ok, unknown, bad, waits, ready}
-use Rattle.reader.specs.Item.{Item, end, skipped, unfinished, chunk, itemSaid}
+use Rattle.reader.specs.Item.{Item, chunk, itemSaid}
 use Rattle.reader.specs.Step.{before, stepOf}
 use Rattle.reader.specs.IsStep.{IsStep}
 use Rattle.reader.specs.declared.Cursor.{Cursor}
 use Rattle.reader.specs.declared.Stepped.{Stepped}
 use Rattle.reader.proofs.Cursor.step.Reads as step
+use Rattle.reader.proofs.Laws.{item-by, other-item}
 use Rattle.samples.specs.Copy.{copiedSaid, layoutIn, layoutBy, layoutAt, countOf, samplesBy, samplesAt, filled}
 use Rattle.samples.specs.Given.{isThere, layoutThere, layoutGiven, countGiven, placeGiven, samplesGiven}
 use Rattle.samples.specs.declared.Copied.{Copied}
@@ -52,16 +54,23 @@ module _ (o : Order) (s : List ℕ) (c : Cursor) where
 
   layout-by : (i : Item) → stepOf o s c .item ≡ gives i → (float : Bool) (channel : ℕ) →
       layoutThere float o s channel (stepOf o s c .shown) (gives i) ≡ layoutBy float channel (stepOf o s c .shown) (gives i)
-  layout-by end e float channel = refl
-  layout-by (skipped p n) e float channel = refl
-  layout-by (unfinished p n) e float channel = refl
-  layout-by (chunk p code size says) e float channel = rw (place-is p code size says e) (there p code size says e float channel)
+  layout-by i e float channel =
+      let shown = stepOf o s c .shown in
+      item-by (λ (j : Item). stepOf o s c .item ≡ gives j → layoutThere float o s channel shown (gives j) ≡ layoutBy float channel shown (gives j))
+      (λ p code size says q. rw (place-is p code size says q) (there p code size says q float channel))
+      (λ j n q.
+      other-item (refuses 35) (λ p code size says. pick (isThere o (drop p s) shown code size says) (layoutIn float channel shown says code) (refuses 35)) j n
+      ∙ sym (other-item (refuses 35) (λ p code size says. layoutIn float channel shown says code) j n))
+      i e
 
   samples-by : (i : Item) → stepOf o s c .item ≡ gives i → samplesBy (gives i) (drop (placeGiven (gives i)) s) ≡ samplesBy (gives i) (drop (c .place) s)
-  samples-by end e = refl
-  samples-by (skipped p n) e = refl
-  samples-by (unfinished p n) e = refl
-  samples-by (chunk p code size says) e = rw (place-is p code size says e)
+  samples-by i e =
+      item-by (λ (j : Item). stepOf o s c .item ≡ gives j → samplesBy (gives j) (drop (placeGiven (gives j)) s) ≡ samplesBy (gives j) (drop (c .place) s))
+      (λ p code size says q. rw (place-is p code size says q))
+      (λ j n q.
+      other-item [] (λ p code size says. take (size - 8) (drop 20 (drop (placeGiven (gives j)) s))) j n
+      ∙ sym (other-item [] (λ p code size says. take (size - 8) (drop 20 (drop (c .place) s))) j n))
+      i e
 
 -- what a copy of what t gave answers and leaves is what one at c does: for both widths, every channel and every slice
 pub record AsAtCursor (o : Order) (s : List ℕ) (c : Cursor) (t : Stepped) : Type 1 where

@@ -1,6 +1,6 @@
 -- The chunk that a step gives stands at the cursor.
 use Prim.Native.Nat.{ℕ}
-use mathlib.Core.Path.{_≡_, refl, _∙_}
+use mathlib.Core.Path.{_≡_, refl, sym, ap, _∙_}
 use mathlib.Core.Bool.{Bool, true, false, not}
 use mathlib.Core.List.{List, [], _∷_}
 use native.Mathlib.Omega.{arith}
@@ -12,15 +12,16 @@ use Rattle.num.specs.declared.Order.{Order}
 use Rattle.frame.specs.Place.{shows}
 use Rattle.frame.specs.Ahead.{aheadOf}
 use Rattle.frame.specs.declared.Ahead.{Ahead}
-use Rattle.frame.specs.declared.Ahead.the-variants.{End, Stretch, Cut, Chunk}
-use Rattle.frame.proofs.Looks.{is-chunk}
+use Rattle.frame.specs.declared.Ahead.the-variants.{Chunk}
+use Rattle.frame.proofs.Looks.{is-chunk, ahead-by}
 use Rattle.frame.specs.declared.At.the-variants.{Complete}
 use Rattle.body.specs.Kind.{kindOf}
 use Rattle.effect.specs.Says.{Says}
 use Rattle.effect.specs.Effect.{Effect, effect}
 use Rattle.state.specs.Good.{goodState}
 use Rattle.state.specs.declared.State.{State}
-use Rattle.reader.specs.Item.{chunk}
+use Rattle.reader.specs.Item.{chunk, isChunk}
+use Rattle.reader.proofs.Laws.{gives-other}
 use Rattle.reader.specs.Step.{Step, before, refused, accepts, stepBy, stepOf}
 use Rattle.reader.specs.declared.Cursor.{Cursor}
 
@@ -40,14 +41,20 @@ pub record Stands (o : Order) (l : List ℕ) (c : Cursor) (t : Step) (code size 
 
 module _ (o : Order) (c : Cursor) (p code size : ℕ) (says : Says) where
   stands-by : (l : List ℕ) (a : Ahead) → aheadOf o l ≡ a → stepBy o l c a .item ≡ gives (chunk p code size says) → Stands o l c (stepBy o l c a) code size says
-  stands-by l (Chunk k n) h e =
+  stands-by l a =
+      ahead-by (λ (b : Ahead). aheadOf o l ≡ b → stepBy o l c b .item ≡ gives (chunk p code size says) → Stands o l c (stepBy o l c b) code size says)
+      (λ k n h e.
       let i : k ≡ code = cc in
       let j : n ≡ size = cc in
       let q : effectOf o l c k n .says ≡ says = cc in
-      record { here = is-chunk o l k n h ∙ rw (i, j); ahead = h ∙ rw (i, j); step = rw (i, j); said = rw (← i, ← j) q }
-  stands-by l Cut h e = let z : _≡_ {A = ℕ} 0 1 = cc in absurd (omega arith)
-  stands-by l Stretch h e = let z : _≡_ {A = ℕ} 0 1 = cc in absurd (omega arith)
-  stands-by l End h e = let z : _≡_ {A = ℕ} 0 1 = cc in absurd (omega arith)
+      record { here = is-chunk o l k n h ∙ rw (i, j); ahead = h ∙ rw (i, j); step = rw (i, j); said = rw (← i, ← j) q })
+      (λ b n h e.
+      let g = gives-other o l c b n in
+      let t : g .0 ≡ chunk p code size says = cc (g .1) in
+      let z : _≡_ {A = Bool} true false = sym (ap isChunk t) ∙ g .2 in
+      let y : _≡_ {A = ℕ} 0 1 = cc in
+      absurd (omega arith))
+      a
 
   tests-by : (l : List ℕ) (a b : Bool) →
       let t : Step = pick a (refused 2 c) (pick b (refused 3 c) (stepBy o l c (aheadOf o l))) in

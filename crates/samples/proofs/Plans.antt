@@ -10,7 +10,8 @@ use Rattle.num.specs.Answer.{Answer, gives, refuses}
 use Rattle.num.specs.declared.Order.{Order}
 use Rattle.frame.specs.Ahead.{isChunk}
 use Rattle.frame.specs.declared.Ahead.{Ahead}
-use Rattle.frame.specs.declared.Ahead.the-variants.{End, Stretch, Cut, Chunk}
+use Rattle.frame.specs.declared.Ahead.the-variants.{Chunk}
+use Rattle.frame.proofs.Looks.{ahead-by}
 use Rattle.body.specs.Kind.{kindOf}
 use Rattle.body.specs.Table.{shaped}
 use Rattle.body.specs.declared.sampled.Data.{Data}
@@ -19,7 +20,7 @@ use Rattle.effect.specs.Ready.{readyData}
 use Rattle.reader.specs.Item.{chunk}
 use Rattle.reader.specs.Step.{before, stepBy, stepOf}
 use Rattle.reader.specs.declared.Cursor.{Cursor}
-use Rattle.reader.proofs.Laws.{chunk-ends}
+use Rattle.reader.proofs.Laws.{chunk-ends, gives-other, other-item}
 use Rattle.state.specs.State.{emptied}
 use Rattle.state.specs.declared.State.{State}
 use Rattle.samples.specs.Layout.{layout}
@@ -36,20 +37,20 @@ use Rattle.samples.proofs.Ready.{effect-ready}
 -- what is no chunk has no place for samples
 pub none-ahead : (float : Bool) (channel : ℕ) (o : Order) (l : List ℕ) (c : Cursor) (a : Ahead) → isChunk a ≡ false →
     layoutBy float channel (stepBy o l c a .shown) (stepBy o l c a .item) ≡ refuses 35
-none-ahead float channel o l c End e = refl
-none-ahead float channel o l c Stretch e = refl
-none-ahead float channel o l c Cut e = refl
-none-ahead float channel o l c (Chunk code size) e = let z : _≡_ {A = ℕ} 0 1 = cc in absurd (omega arith)
+none-ahead float channel o l c a e =
+    let g = gives-other o l c a e in
+    let t = stepBy o l c a in
+    rw (g .1) (other-item (refuses 35) (λ place code size says. layoutIn float channel (t .shown) says code) (g .0) (g .2))
 
 -- and a reader that is searching finds nothing ready
 pub none-searching : (float : Bool) (channel : ℕ) (o : Order) (l : List ℕ) (c : Cursor) (a : Ahead) → c .«in_step» ≡ false →
     layoutBy float channel (stepBy o l c a .shown) (stepBy o l c a .item) ≡ refuses 35
-none-searching float channel o l c End e = refl
-none-searching float channel o l c Stretch e = refl
-none-searching float channel o l c Cut e = refl
-none-searching float channel o l c (Chunk code size) e =
-    let t = effectIn o l code size (emptied true) in
-    rw e (sym (none-lies float channel (t .shown) (t .says) code (searching o (take size (drop 12 l)) (kindOf code))))
+none-searching float channel o l c a e =
+    ahead-by (λ (b : Ahead). layoutBy float channel (stepBy o l c b .shown) (stepBy o l c b .item) ≡ refuses 35)
+    (λ code size. let t = effectIn o l code size (emptied true) in
+    rw e (sym (none-lies float channel (t .shown) (t .says) code (searching o (take size (drop 12 l)) (kindOf code)))))
+    (λ b n. none-ahead float channel o l c b n)
+    a
 
 in-by : (float : Bool) (channel code : ℕ) (shown : State) (says : Says) (l : Layout) → layoutIn float channel shown says code ≡ gives l →
     (d : Data) × (says ≡ ready d) × (layout float (shaped (kindOf code)) channel shown d ≡ gives l)

@@ -3,6 +3,7 @@ use Prim.Native.Nat.{ℕ}
 use mathlib.Core.Path.{_≡_, refl, sym, ap, _∙_}
 use mathlib.Core.Bool.{Bool, true, false}
 use mathlib.Core.List.{List, [], _∷_}
+use mathlib.Core.Logic.{⊎-elim}
 use native.Mathlib.Omega.{arith}
 use denote.Enum.Declared.{tagOf}
 use types.Run.{OneOf, miss}
@@ -17,7 +18,8 @@ use Rattle.num.specs.Choice.{pick, both}
 use Rattle.num.specs.declared.Order.{Order}
 use Rattle.num.proofs.Tests.{both-true, both-hold}
 use Rattle.frame.specs.declared.Ahead.{Ahead}
-use Rattle.frame.specs.declared.Ahead.the-variants.{End, Stretch, Cut, Chunk}
+use Rattle.frame.specs.declared.Ahead.the-variants.{Chunk}
+use Rattle.frame.proofs.Looks.{ahead-by, other-ahead}
 use Rattle.body.specs.declared.sampled.Data.{Data}
 use Rattle.effect.specs.Says.{Says, ready, verdictSaid}
 use Rattle.effect.specs.declared.Verdict.{Verdict}
@@ -25,9 +27,10 @@ use Rattle.effect.specs.declared.Verdict.the-variants.{Good, Unknown, Malformed
 use Rattle.effect.proofs.Verdict as verdict
 use Rattle.reader.specs.Item.{chunk, itemSaid}
 use Rattle.reader.specs.declared.Item.{Item}
-use Rattle.reader.specs.declared.Item.the-variants as declared
 use Rattle.reader.proofs.Item as item
+use Rattle.reader.proofs.Laws.{no-chunk-told, other-item}
 use Rattle.state.specs.declared.State.{State}
+use Rattle.samples.specs.Copy.{layoutIn}
 use Rattle.samples.specs.Given.{sameTime, sameData, isThat, isThere, layoutThere}
 
 -- ---- the tests tell what is equal
@@ -65,12 +68,11 @@ pub own-data : (a : Data) → sameData a a ≡ true
 own-data a = both-hold (sameTime (a .time) (a .time)) (eqb (a .samples) (a .samples)) (own-time (a .time)) (eq-eqb (a .samples) (a .samples) refl)
 
 pub is-that : (code size : ℕ) (a : Ahead) → isThat code size a ≡ true → a ≡ Chunk code size
-is-that code size End e = let z : _≡_ {A = ℕ} 0 1 = cc in absurd (omega arith)
-is-that code size Stretch e = let z : _≡_ {A = ℕ} 0 1 = cc in absurd (omega arith)
-is-that code size Cut e = let z : _≡_ {A = ℕ} 0 1 = cc in absurd (omega arith)
-is-that code size (Chunk k n) e =
-    let h = both-true (eqb k code) (eqb n size) e in
-    rw (eqb-true k code (h .0), eqb-true n size (h .1))
+is-that code size a =
+    ahead-by (λ (b : Ahead). isThat code size b ≡ true → b ≡ Chunk code size)
+    (λ k n e. let h = both-true (eqb k code) (eqb n size) e in rw (eqb-true k code (h .0), eqb-true n size (h .1)))
+    (λ b n e. let z : _≡_ {A = ℕ} 0 1 = cc (other-ahead false (λ k m. both (eqb k code) (eqb m size)) b n) in absurd (omega arith))
+    a
 
 pub own-that : (code size : ℕ) → isThat code size (Chunk code size) ≡ true
 own-that code size = both-hold (eqb code code) (eqb size size) (eq-eqb code code refl) (eq-eqb size size refl)
@@ -84,12 +86,9 @@ pick-same false x = refl
 module _ (float : Bool) (o : Order) (s : List ℕ) (channel : ℕ) (shown : State) where
   -- an item that is no chunk
   pub no-chunk : (i : Item) → OneOf (0 ∷ 1 ∷ 2 ∷ 3 ∷ 4 ∷ []) (tagOf item.the-type i) → layoutThere float o s channel shown (itemSaid i) ≡ refuses 35
-  no-chunk declared.PastEnd e = refl
-  no-chunk declared.BadState e = refl
-  no-chunk declared.End e = refl
-  no-chunk (declared.Skipped place n) e = refl
-  no-chunk (declared.Unfinished place n) e = refl
-  no-chunk (declared.Chunk place code size v) e = absurd (miss (0 ∷ 1 ∷ 2 ∷ 3 ∷ 4 ∷ []) 5 tt e)
+  no-chunk i e =
+      ⊎-elim (λ r. rw (r .1)) (λ g. rw (g .1, other-item (refuses 35) (λ place code size says. pick (isThere o (drop place s) shown code size says) (layoutIn float channel shown says code) (refuses 35)) (g .0) (g .2)))
+      (no-chunk-told i e)
 
   module _ (place code size : ℕ) where
     -- a chunk that is not said to be ready

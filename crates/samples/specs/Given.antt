@@ -9,9 +9,9 @@ use Rattle.num.specs.Answer.{Answer, gives, refuses, then}
 use Rattle.num.specs.Choice.{pick, both}
 use Rattle.num.specs.declared.Order.{Order}
 use Rattle.frame.specs.Ahead.{aheadOf}
+use Rattle.frame.specs.Ahead as Ahead
 use Rattle.frame.specs.Place.{headerSize}
 use Rattle.frame.specs.declared.Ahead.{Ahead}
-use Rattle.frame.specs.declared.Ahead.the-variants.{End, Stretch, Cut, Chunk}
 use Rattle.body.specs.Kind.{kindOf}
 use Rattle.body.specs.declared.sampled.Data.{Data}
 use Rattle.effect.specs.Says.{Says}
@@ -41,10 +41,7 @@ bothGive (refuses n) b = false
 
 -- what is ahead is a chunk of this type and size
 abbrev pub isThat : ℕ → ℕ → Ahead → Bool
-isThat code size End = false
-isThat code size Stretch = false
-isThat code size Cut = false
-isThat code size (Chunk k n) = both (eqb k code) (eqb n size)
+isThat code size a = Ahead.ofChunk false (λ k n. both (eqb k code) (eqb n size)) a
 
 -- l begins with the chunk that an item tells of, and with the state that was shown it is ready, with the time and the
 -- count of samples that the item tells of

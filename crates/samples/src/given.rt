@@ -18,12 +18,10 @@ use reader::Stepped;
 fn stands(order: Order, s: &[u8], place: usize, code: u32, size: usize) -> bool
     ensures { λ r. ⌜ r ≡ isThat code size (aheadOf order (drop place (now (s .entry)))) ⌝ }
 {
-    match frame::ahead_of(order, s, place) {
-        Ahead::Chunk { code: k, size: n } => (k == code) & (n == size),
-        Ahead::End => false,
-        Ahead::Stretch => false,
-        Ahead::Cut => false,
-    }
+    let Ahead::Chunk { code: k, size: n } = frame::ahead_of(order, s, place) else {
+        return false;
+    };
+    (k == code) & (n == size)
 }
 
 fn same_data(a: Data, b: Data) -> bool

@@ -1,4 +1,4 @@
--- Two values of the state are put anew.
+-- Two values of the state are replaced.
 use borrow.Author.Needs.{needs}
 use Rattle.effect.proofs.ready.in_group.Statement.{statement}
 use Rattle.effect.proofs.ready.in_group.Tie as tie
