@@ -17,7 +17,6 @@ pub fn first(bytes: &[u8]) -> String {
     let text = listing(bytes, |verdict, text| {
         if let Verdict::Ready(ready) = verdict {
             if let Some(numbers) = shorts(ready, 0) {
-                text.push(' ');
                 for number in numbers {
                     let _ = write!(text, " {number}");
                 }

@@ -13,6 +13,7 @@ use Rattle.listing.proofs.words.hex_word.Reads as hex_word
 use Rattle.listing.proofs.words.label.Reads as label
 use Rattle.listing.proofs.words.newline.Reads as newline
 use Rattle.listing.proofs.words.number.Reads as number
+use Rattle.listing.proofs.words.short.Reads as short
 
 pub first-line-one-answer : OneAnswer first_line.Post
 first-line-one-answer κs a r r′ s s′ p q = p ∙ sym q
@@ -43,6 +44,9 @@ number-one-answer κs a r r′ s s′ p q = p ∙ sym q
 
 pub decimal-one-answer : OneAnswer decimal.Post
 decimal-one-answer κs a r r′ s s′ p q = p ∙ sym q
+
+pub short-one-answer : OneAnswer short.Post
+short-one-answer κs a r r′ s s′ p q = p ∙ sym q
 
 pub hex-word-one-answer : OneAnswer hex_word.Post
 hex-word-one-answer κs a r r′ s s′ p q = p ∙ sym q

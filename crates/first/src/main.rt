@@ -39,16 +39,6 @@ fn items(order: Order, s: &[u8]) {
 fn channel_zero(order: Order, s: &[u8], stepped: Stepped) {
     let mut out = [0i16; 34816];
     if let Copied::Count(n) = samples::shorts_of(order, s, stepped, 0, &mut out) {
-        print(listing::word(b" "));
-        for i in 0..n {
-            if i < 34816 {
-                print(listing::decimal(wide(out[i])));
-            }
-        }
-        print(listing::newline());
+        show::print_shorts(&out, n);
     }
-}
-
-fn wide(x: i16) -> i64 {
-    x as i64
 }

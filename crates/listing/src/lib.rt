@@ -19,6 +19,7 @@ pub use words::decimal;
 pub use words::hex_word;
 pub use words::newline;
 pub use words::number;
+pub use words::short;
 
 // What a line of the dump is about.
 pub enum Label {

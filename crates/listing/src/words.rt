@@ -42,6 +42,20 @@ pub fn decimal(n: i64) -> Text
     number(n as usize)
 }
 
+// A number of 16 bits is one of 64.
+fn wide(n: i16) -> i64
+    ensures { λ r. ⌜ r ≡ n ⌝ }
+{
+    n as i64
+}
+
+// A 16-bit integer in decimal, after a space.
+pub fn short(n: i16) -> Text
+    ensures { λ r. ⌜ r ≡ textOf (integerWord n) ⌝ }
+{
+    decimal(wide(n))
+}
+
 // A pattern of 32 bits in eight hex digits, after a space.
 pub fn hex_word(p: u32) -> Text
     ensures { λ r. ⌜ r ≡ textOf (hexWord p) ⌝ }

@@ -74,48 +74,51 @@ fn line(order: Order, s: &[u8], stepped: Stepped, data: Data) {
 fn shorts(order: Order, s: &[u8], stepped: Stepped, channel: usize) {
     let mut out = [0i16; 34816];
     if let Copied::Count(n) = samples::shorts_of(order, s, stepped, channel, &mut out) {
-        let mut largest = i16::MIN;
-        for i in 0..n {
-            if i < 34816 {
-                let x = out[i];
-                if largest < x {
-                    largest = x;
-                }
-            }
-        }
-        if 0 < n {
-            print(listing::decimal(wide(largest)));
-        }
+        largest_short(&out, n);
     }
 }
 
-fn wide(x: i16) -> i64 {
-    x as i64
+fn largest_short(xs: &[i16], n: usize) {
+    if 0 < n {
+        let mut largest = i16::MIN;
+        for i in 0..n {
+            if i < xs.len() {
+                if largest < xs[i] {
+                    largest = xs[i];
+                }
+            }
+        }
+        print(listing::short(largest));
+    }
 }
 
 // The same of a channel of floats, by its pattern. No NaN is the largest.
 fn patterns(order: Order, s: &[u8], stepped: Stepped, channel: usize) {
     let mut out = [0u32; 17408];
     if let Copied::Count(n) = samples::patterns_of(order, s, stepped, channel, &mut out) {
-        let mut found = false;
-        let mut largest = 0u32;
-        for i in 0..n {
-            if i < 17408 {
-                let p = out[i];
-                if is_number(p) & (!found | (rank(largest) < rank(p))) {
-                    largest = p;
-                    found = true;
-                }
-            }
-        }
-        if found {
-            print(listing::hex_word(largest));
-        }
+        largest_pattern(&out, n);
     }
 }
 
-fn is_number(pattern: u32) -> bool {
-    pattern % 0x8000_0000 <= 0x7F80_0000
+fn largest_pattern(xs: &[u32], n: usize) {
+    let mut found = false;
+    let mut largest = 0;
+    for i in 0..n {
+        if i < xs.len() {
+            if is_larger(xs[i], found, largest) {
+                largest = xs[i];
+                found = true;
+            }
+        }
+    }
+    if found {
+        print(listing::hex_word(largest));
+    }
+}
+
+// Whether a pattern is a number, and larger than the one found so far, if there is one.
+fn is_larger(pattern: u32, found: bool, largest: u32) -> bool {
+    (pattern % 0x8000_0000 <= 0x7F80_0000) & (!found | (rank(largest) < rank(pattern)))
 }
 
 // Patterns of floats in the order of the floats: a negative one has the top bit set and grows downwards.

@@ -5,9 +5,18 @@ use writer::Written;
 
 fn main() {
     let mut out = [0u8; 256];
-    let end = records(Order::Big, &mut out);
-    if end <= 256 {
-        show::stream(&out[..end], true);
+    written_and_read(&mut out);
+}
+
+fn written_and_read(out: &mut [u8]) {
+    let end = records(Order::Big, out);
+    read_back(out, end);
+}
+
+// Exactly the bytes that were written.
+fn read_back(s: &[u8], end: usize) {
+    if end <= s.len() {
+        show::stream(&s[0..end], true);
     }
 }
 

@@ -3,11 +3,11 @@ ghost use mathlib.Core.Path.{_≡_};
 ghost use lib.ListN.{length};
 use crate::line::Line;
 use crate::line::start;
+use crate::numbers::with_patterns;
+use crate::numbers::with_shorts;
 use body::Shape;
 use body::Shaped;
 use listing::Label;
-use listing::decimal;
-use listing::hex_word;
 use listing::number;
 use num::Order;
 use reader::Stepped;
@@ -60,10 +60,6 @@ fn lines(order: Order, s: &[u8], stepped: Stepped, channels: usize, float: bool)
     }
 }
 
-fn wide(x: i16) -> i64 {
-    x as i64
-}
-
 fn head(channel: usize, count: usize) -> Line {
     start(Label::Samples)
         .with(number(channel))
@@ -74,13 +70,7 @@ fn head(channel: usize, count: usize) -> Line {
 fn shorts(order: Order, s: &[u8], stepped: Stepped, channel: usize) {
     let mut out = short_room();
     if let Copied::Count(n) = samples::shorts_of(order, s, stepped, channel, &mut out) {
-        let mut line = head(channel, n);
-        for i in 0..n {
-            if i < 32768 {
-                line = line.with(decimal(wide(out[i])));
-            }
-        }
-        line.end();
+        with_shorts(head(channel, n), &out, n).end();
     }
 }
 
@@ -88,12 +78,6 @@ fn shorts(order: Order, s: &[u8], stepped: Stepped, channel: usize) {
 fn patterns(order: Order, s: &[u8], stepped: Stepped, channel: usize) {
     let mut out = pattern_room();
     if let Copied::Count(n) = samples::patterns_of(order, s, stepped, channel, &mut out) {
-        let mut line = head(channel, n);
-        for i in 0..n {
-            if i < 16384 {
-                line = line.with(hex_word(out[i]));
-            }
-        }
-        line.end();
+        with_patterns(head(channel, n), &out, n).end();
     }
 }

@@ -3,12 +3,15 @@
 mod channels;
 mod chunk;
 mod line;
+mod numbers;
 mod values;
 
 use frame::OrderFound;
 use libc::STDOUT_FILENO;
 use listing::Text;
 use num::Order;
+pub use numbers::print_patterns;
+pub use numbers::print_shorts;
 use reader::Cursor;
 
 // The most bytes that are listed.

@@ -10,7 +10,8 @@ pub(crate) struct Line {
     len: usize,
 }
 
-fn empty() -> Line {
+// Nothing gathered yet.
+pub(crate) fn empty() -> Line {
     Line {
         bytes: [0; 1024],
         len: 0,

@@ -14,7 +14,7 @@ use Rattle.effect.specs.Says.{ready}
 use Rattle.effect.specs.Ready.{readyData}
 use Rattle.reader.specs.Item.{chunk, itemSaid}
 use Rattle.reader.proofs.Laws.{chunk-ends}
-use Rattle.samples.specs.Given.{isThat, layoutGiven, samplesGiven}
+use Rattle.samples.specs.Given.{sameData, isThat, layoutGiven, samplesGiven}
 use Rattle.samples.proofs.AtCursor.{effectIn}
 use Rattle.samples.proofs.Plans.{has-time, plan-tells}
 use Rattle.samples.proofs.There.{same-data, own-data, is-that, no-chunk, not-ready}
@@ -113,7 +113,9 @@ unfolding layoutGiven
 returns-5 c =
     let k = c .before .before in
     let e = k .before .before .before .before .before .before in
-    ((35, rw (said (e .before .before), that e, ← asked k, ← c .before .same-data .ensures, not-true (c .before .same-data .result) (c .if2 .taken)), refl), tt)
+    let other : sameData (k .before .found .given .0 .0) (e .before .before .before .verdict .given .0 .0) ≡ false =
+    sym (c .before .same-data .ensures) ∙ not-true (c .before .same-data .result) (c .if2 .taken) in
+    ((35, rw (said (e .before .before), that e, ← asked k, other), refl), tt)
 
 -- it is the data that was given
 same : (c : tie.Else2) →
