@@ -3,7 +3,8 @@ ghost use mathlib.Core.Path.{_≡_};
 ghost use lib.ListN.{length};
 ghost use Rattle.writer.specs.Write.{writeOf, writtenOut, writtenSaid};
 ghost use Rattle.typed.specs.Bodies.{float32};
-ghost use Rattle.typed.specs.Levels.{levelCode, levelValue};
+ghost use Rattle.body.specs.Values.{amount};
+ghost use Rattle.typed.specs.Levels.{levelCode};
 use body::Level;
 use num::Order;
 use writer::Written;
@@ -21,9 +22,9 @@ fn float(order: Order, code: u32, x: f32, out: &mut [u8], place: usize) -> Writt
 // finite with 12, and for FFS_ one that is not above 0.
 pub fn level(order: Order, level: Level, out: &mut [u8], place: usize) -> Written
     ensures said { λ r. ⌜ writtenSaid r
-        ≡ writeOf order (levelCode level) (float32 order (levelValue level)) (length (now (out .entry))) place ⌝ }
+        ≡ writeOf order (levelCode level) (float32 order (amount level)) (length (now (out .entry))) place ⌝ }
     ensures left { λ _. ⌜ now (out .exit)
-        ≡ writtenOut order (levelCode level) (float32 order (levelValue level)) (now (out .entry)) place ⌝ }
+        ≡ writtenOut order (levelCode level) (float32 order (amount level)) (now (out .entry)) place ⌝ }
 {
     match level {
         Level::FullScale(x) => float(order, body::kinds::DBFS, x, out, place),
