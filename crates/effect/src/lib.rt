@@ -42,6 +42,7 @@ pub enum Verdict {
     Good,
     // Of a type that no kind has.
     Unknown,
+    // Of a known kind, with a body that the kind does not allow: numbers 11 to 15.
     Malformed(Fault),
     // A group chunk whose channels do not cover its pairs: number 16.
     NotCovered,

@@ -28,9 +28,13 @@ pub const LIMIT: usize = 69632;
 
 // What stands at a place of a stream. The code is the chunk's type as a number, the size that of its body.
 pub enum At {
+    // No sync word.
     NoSync,
+    // A whole header, with a size that is not good.
     Bad,
+    // A sync word, and too few bytes behind it for the header or for the body.
     Unfinished,
+    // A whole chunk.
     Complete { code: u32, size: usize },
 }
 
@@ -42,6 +46,7 @@ pub enum Ahead {
     Stretch,
     // A chunk that breaks off at the end of the stream.
     Cut,
+    // A whole chunk.
     Chunk { code: u32, size: usize },
 }
 

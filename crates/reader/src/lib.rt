@@ -37,14 +37,17 @@ pub enum Item {
     BadState,
     // No byte is left.
     End,
+    // Bytes that belong to no chunk.
     Skipped {
         place: usize,
         length: usize,
     },
+    // A chunk that breaks off at the end of the stream.
     Unfinished {
         place: usize,
         length: usize,
     },
+    // A chunk: its place, its type as a number, the bytes of its body, and what is said of it.
     Chunk {
         place: usize,
         code: u32,

@@ -39,6 +39,7 @@ pub struct Layout {
     pub count: usize,
 }
 
+// That layout, or why there is none.
 pub enum LayoutFound {
     At(Layout),
     NoChannel,
