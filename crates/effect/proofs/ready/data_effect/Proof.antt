@@ -1,8 +1,9 @@
 -- Whether it is ready decides what is shown and the mark.
 use mathlib.Core.Bool.{Bool, true, false, not}
-use mathlib.Core.Path.{_≡_, refl}
+use mathlib.Core.Path.{_≡_, refl, ap, _∙_}
 use borrow.Author.Needs.{needs}
 use Rattle.num.specs.Choice.{pick}
+use Rattle.state.specs.State.{withMark}
 use Rattle.effect.proofs.ready.data_effect.Statement.{statement}
 use Rattle.effect.proofs.ready.data_effect.Tie as tie
 
@@ -22,7 +23,12 @@ shows-requires c κs = search needs
 returns : tie.Need-returns
 returns c =
     let k = c .before in
-    record { says = refl; shown = rw (← k .before .is-ready .ensures, c .shows .ensures); after = rw (← k .before .is-ready .ensures, k .with-mark .ensures, mark-after) }
+    let r = k .before .is-ready in
+    record {
+      says = refl;
+      shown = rw (← r .ensures, c .shows .ensures);
+      after = rw (← r .ensures) (k .with-mark .ensures ∙ ap (λ (m : Bool). withMark (k .before .before .args .was) m) (mark-after (r .result)));
+    }
 
 pub data-effect-spec : {M : Type 1} → statement M
 data-effect-spec = tie.close (tie.spec is-ready-requires with-mark-requires shows-requires returns)
