@@ -1,4 +1,4 @@
-//! PXGF streams read, written, checked and listed, by the paper rules and
+//! PXGF streams read, written, checked and listed, by the written rules and
 //! with the standard library alone.
 //!
 //! The layers, from the bytes upwards: [`order`] reads numbers, [`search`]

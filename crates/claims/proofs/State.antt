@@ -1,4 +1,4 @@
--- A state put together rebuilt, the empty state, one with other values or another mark, and whether a state is good, its values and its lists, are each one answer.
+-- A state that was rebuilt, the empty state, one with other values or another mark, and whether a state is good, its values and its lists, are each one answer.
 use mathlib.Core.Path.{sym, _∙_}
 use Rattle.state.proofs.State.rebuilt.Reads as rebuilt
 use Rattle.state.proofs.State.empty.Reads as empty

@@ -141,7 +141,7 @@ placed-end f (skipped p n) = refl
 placed-end f (unfinished p n) = refl
 placed-end f (chunk p code size says) = refl
 
--- counted rebuilt and back, an item is what it was
+-- an item whose place is counted from another start, and then back again, is what it was
 pub placed-back : (f g : ℕ → ℕ) → ((k : ℕ) → f (g k) ≡ k) → (i : Item) → placedBy f (placedBy g i) ≡ i
 placed-back f g h end = refl
 placed-back f g h (skipped p n) = rw (h p)

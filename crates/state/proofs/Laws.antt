@@ -1,4 +1,4 @@
--- Laws of good states: the parts of one, one with a part put rebuilt, absent values, and lists of
+-- Laws of good states: the parts of one, one with a part set, absent values, and lists of
 -- values that are allowed.
 use Prim.Native.Nat.{ℕ, zero, suc, _<_, _≤_}
 use mathlib.Core.Path.{_≡_, refl, sym, _∙_}
@@ -63,7 +63,7 @@ good-parts s g =
       gains = l .1;
     }
 
--- ---- a slot put rebuilt: its test is true as the old one's was, so nothing else of the state's test changes
+-- ---- a slot that was set: its test is true as the old one's was, so nothing else of the state's test changes
 
 pub set-good : (x : Slot) (a : Value x) (s : State) → goodState s ≡ true → goodIn x a ≡ true → goodState (withValues s (setIn x a (s .values))) ≡ true
 unfolding goodValues goodLists

@@ -1,4 +1,4 @@
--- Laws of the slots: what stands in each after one was put rebuilt, and that the values are what their slots hold.
+-- Laws of the slots: what stands in each after one was set, and that the values are what their slots hold.
 use Prim.Native.Nat.{ℕ}
 use mathlib.Core.Path.{_≡_, refl, ap, _∙_}
 use mathlib.Core.Bool.{Bool, true, false}
@@ -28,7 +28,7 @@ same-values v w h = λ i. built (λ x. h x i)
 abbrev mixed : (Slot → Bool) → Values → Values → (x : Slot) → Value x
 mixed test w v x = pick (test x) (valueIn x w) (valueIn x v)
 
--- with a slot put rebuilt: that slot from the same put into no values at all, the others as they were
+-- after a slot was set, it holds what it holds where that is set in no values at all; the others are as they were
 put-mixed : (y : Slot) (a : Value y) (v : Values) → setIn y a v ≡ built (mixed (isSlot y) (setIn y a (built none)) v)
 put-mixed packing a v = refl
 put-mixed rate a v = refl

@@ -18,7 +18,7 @@ valueIn group v = v .group
 valueIn frequencies v = v .frequencies
 valueIn gains v = v .gains
 
--- values with that of one slot put rebuilt
+-- values with another value in one slot
 abbrev pub setIn : (x : Slot) → Value x → Values → Values
 setIn packing a v = record {
   packing = a;
@@ -184,7 +184,7 @@ built f = record {
 abbrev pub emptied : Bool → State
 emptied mark = record { values = built none; mark = mark }
 
--- a state with its values or its mark put rebuilt
+-- a state with other values, or with another mark
 abbrev pub withValues : State → Values → State
 withValues s v = record { values = v; mark = s .mark }
 

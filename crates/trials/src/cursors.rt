@@ -77,7 +77,7 @@ fn chunk(digest: u64, place: usize, code: u32, size: usize, verdict: u64) -> u64
     more(more(b, size as u64), verdict)
 }
 
-// The paper's number, or one for each verdict that has none.
+// The number of a verdict, or a number of its own for each verdict that has none.
 fn number(verdict: Verdict) -> u64 {
     match verdict {
         Verdict::Good => 0,
