@@ -9,6 +9,7 @@ pub mod State
 pub mod Effect
 pub mod Reader
 pub mod Lay
+pub mod Lent
 pub mod Writer
 pub mod Copy
 pub mod Samples

@@ -7,6 +7,7 @@ use Rattle.samples.proofs.shorts.shorts_at.Reads as shorts_at
 use Rattle.samples.proofs.shorts.shorts_of.Reads as shorts_of
 use Rattle.claims.proofs.Promise.{OneAnswer, OneEnd, by-meaning}
 use Rattle.samples.proofs.Copied.number.Reads as number
+use Rattle.samples.proofs.Copied.count.Reads as count
 
 pub shorts-at-one-answer : OneEnd shorts_at.Post (λ κs s. s .1 .1 .1 .1 .0 .now)
 shorts-at-one-answer κs a r r′ s s′ p q = by-meaning copied-told r r′ p q
@@ -22,3 +23,6 @@ patterns-of-one-answer κs a r r′ s s′ p q = by-meaning copied-told r r′ p
 
 pub copied-number-one-answer : OneAnswer number.Post
 copied-number-one-answer κs a r r′ s s′ p q = p ∙ sym q
+
+pub copied-count-one-answer : OneAnswer count.Post
+copied-count-one-answer κs a r r′ s s′ p q = p ∙ sym q

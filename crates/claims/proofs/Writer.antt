@@ -10,6 +10,7 @@ use Rattle.writer.proofs.shorts.ssnc.Reads as ssnc
 use Rattle.writer.proofs.shorts.ssnr.Reads as ssnr
 use Rattle.writer.proofs.write.Reads as write
 use Rattle.writer.proofs.Written.number.Reads as number
+use Rattle.writer.proofs.Written.place.Reads as place
 
 pub write-one-answer : OneEnd write.Post (λ κs s. s .1 .1 .1 .0 .now)
 write-one-answer κs a r r′ s s′ p q = by-meaning written-told r r′ p q
@@ -34,3 +35,6 @@ gfnc-one-answer κs a r r′ s s′ p q = by-meaning written-told r r′ p q
 
 pub written-number-one-answer : OneAnswer number.Post
 written-number-one-answer κs a r r′ s s′ p q = p ∙ sym q
+
+pub written-place-one-answer : OneAnswer place.Post
+written-place-one-answer κs a r r′ s s′ p q = p ∙ sym q

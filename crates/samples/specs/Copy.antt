@@ -4,7 +4,7 @@ use mathlib.Core.Bool.{Bool}
 use mathlib.Core.List.{List, []}
 use lib.Dec.{leb}
 use lib.ListN.{take, drop}
-use Rattle.num.specs.Answer.{Answer, gives, refuses, then}
+use Rattle.num.specs.Answer.{Answer, gives, refuses, Reply, replyWith, then}
 use Rattle.num.specs.Choice.{pick}
 use Rattle.num.specs.declared.Order.{Order}
 use Rattle.frame.specs.Place.{frontSize}
@@ -29,6 +29,10 @@ copiedSaid BadState = refuses 3
 copiedSaid NotReady = refuses 35
 copiedSaid NoChannel = refuses 34
 copiedSaid TooShort = refuses 33
+
+-- its number, and the count that goes with it: 0 with a refusal
+abbrev pub copiedReply : Copied → Reply ℕ
+copiedReply a = replyWith 0 (copiedSaid a)
 
 -- where the channel's numbers lie in the chunk that a step would give, if it is ready data of the width
 abbrev pub layoutIn : Bool → ℕ → State → Says → ℕ → Answer Layout

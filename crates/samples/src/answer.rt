@@ -1,7 +1,7 @@
-// The numbers of what copying answers.
+// The number of what copying answers, and the count that goes with it.
 ghost use mathlib.Core.Path.{_≡_};
 ghost use Rattle.num.specs.Answer.{refusal};
-ghost use Rattle.samples.specs.Copy.{copiedSaid};
+ghost use Rattle.samples.specs.Copy.{copiedSaid, copiedReply};
 use crate::Copied;
 
 impl Copied {
@@ -16,6 +16,20 @@ impl Copied {
             Copied::NotReady => 35,
             Copied::NoChannel => 34,
             Copied::TooShort => 33,
+        }
+    }
+
+    // How many numbers were copied, two for a pair; 0 with a refusal.
+    pub fn count(self) -> usize
+        ensures { λ r. ⌜ r ≡ copiedReply self .value ⌝ }
+    {
+        match self {
+            Copied::Count(n) => n,
+            Copied::PastEnd => 0,
+            Copied::BadState => 0,
+            Copied::NotReady => 0,
+            Copied::NoChannel => 0,
+            Copied::TooShort => 0,
         }
     }
 }

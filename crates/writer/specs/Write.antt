@@ -3,7 +3,7 @@ use Prim.Native.Nat.{ℕ, _+_, _-_}
 use mathlib.Core.List.{List}
 use lib.Dec.{ltb}
 use lib.ListN.{length}
-use Rattle.num.specs.Answer.{Answer, gives, refuses, then}
+use Rattle.num.specs.Answer.{Answer, gives, refuses, Reply, replyWith, then}
 use Rattle.num.specs.Choice.{pick}
 use Rattle.num.specs.declared.Order.{Order}
 use Rattle.lay.specs.Splice.{splice}
@@ -50,3 +50,7 @@ writtenSaid PastEnd = refuses 2
 writtenSaid BadSize = refuses 32
 writtenSaid (Malformed fault) = refuses (faultNumber fault)
 writtenSaid NoRoom = refuses 31
+
+-- its number, and the place that goes with it: with a refusal, the place as it came
+abbrev pub writtenReply : ℕ → Written → Reply ℕ
+writtenReply came a = replyWith came (writtenSaid a)

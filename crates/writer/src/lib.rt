@@ -17,7 +17,7 @@ ghost use Rattle.frame.specs.Frames.{chunkBytes};
 ghost use Rattle.frame.specs.Place.{headerSize};
 ghost use Rattle.lay.specs.Splice.{splice};
 ghost use Rattle.writer.specs.Inner.Write.{headerBytes, isGood};
-ghost use Rattle.writer.specs.Write.{writeOf, writtenOut, writtenSaid};
+ghost use Rattle.writer.specs.Write.{writeOf, writtenOut, writtenReply, writtenSaid};
 use body::Checked;
 use body::Fault;
 use num::Order;
@@ -46,6 +46,19 @@ impl Written {
             Written::BadSize => 32,
             Written::Malformed(fault) => fault.number(),
             Written::NoRoom => 31,
+        }
+    }
+
+    // Where the next record goes: past the one that was written; with a refusal at `from`, the place of the refused call.
+    pub fn place(self, from: usize) -> usize
+        ensures { λ r. ⌜ r ≡ writtenReply from self .value ⌝ }
+    {
+        match self {
+            Written::Next(next) => next,
+            Written::PastEnd => from,
+            Written::BadSize => from,
+            Written::Malformed(_) => from,
+            Written::NoRoom => from,
         }
     }
 }

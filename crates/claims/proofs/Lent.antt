@@ -1,0 +1,169 @@
+-- A refused call leaves what it was lent: one statement over all calls of the library that are lent a slice to fill.
+use Prim.Native.Nat.{ℕ}
+use mathlib.Core.Path.{_≡_, refl, ap, sym, _∙_}
+use mathlib.Core.Bool.{Bool, true, false, not}
+use native.Mathlib.Omega.{arith}
+use borrow.Author.Tests.{not-true}
+use Rattle.num.specs.Answer.{Answer, gives, refuses}
+use Rattle.copy.proofs.pattern_pairs.Reads as pattern_pairs
+use Rattle.copy.proofs.pattern_reals.Reads as pattern_reals
+use Rattle.copy.proofs.short_pairs.Reads as short_pairs
+use Rattle.copy.proofs.short_reals.Reads as short_reals
+use Rattle.lay.proofs.bytes.Reads as bytes
+use Rattle.lay.proofs.runs.longs.Reads as longs
+use Rattle.lay.proofs.runs.shorts.Reads as shorts
+use Rattle.lay.proofs.runs.words.Reads as words
+use Rattle.samples.specs.Copy.{copiedSaid}
+use Rattle.samples.proofs.patterns.patterns_at.Reads as patterns_at
+use Rattle.samples.proofs.patterns.patterns_of.Reads as patterns_of
+use Rattle.samples.proofs.shorts.shorts_at.Reads as shorts_at
+use Rattle.samples.proofs.shorts.shorts_of.Reads as shorts_of
+use Rattle.typed.proofs.band.bwof.Reads as bwof
+use Rattle.typed.proofs.empty.eofh.Reads as eofh
+use Rattle.typed.proofs.empty.iqdc.Reads as iqdc
+use Rattle.typed.proofs.group.gcf.Reads as gcf
+use Rattle.typed.proofs.group.giqp.Reads as giqp
+use Rattle.typed.proofs.group.grg.Reads as grg
+use Rattle.typed.proofs.levels.level.Reads as level
+use Rattle.typed.proofs.number.bw.Reads as bw
+use Rattle.typed.proofs.number.cf.Reads as cf
+use Rattle.typed.proofs.number.gcbw.Reads as gcbw
+use Rattle.typed.proofs.number.siqp.Reads as siqp
+use Rattle.typed.proofs.number.sofh.Reads as sofh
+use Rattle.typed.proofs.number.sr.Reads as sr
+use Rattle.typed.proofs.plain.text.Reads as text
+use Rattle.writer.specs.Write.{writtenSaid}
+use Rattle.writer.proofs.patterns.gfnc.Reads as gfnc
+use Rattle.writer.proofs.patterns.sfnc.Reads as sfnc
+use Rattle.writer.proofs.patterns.sfnr.Reads as sfnr
+use Rattle.writer.proofs.shorts.gsnc.Reads as gsnc
+use Rattle.writer.proofs.shorts.ssnc.Reads as ssnc
+use Rattle.writer.proofs.shorts.ssnr.Reads as ssnr
+use Rattle.writer.proofs.write.Reads as write
+
+-- an answer is a refusal
+abbrev pub isRefusal : {A : Type 0} → Answer A → Bool
+isRefusal (gives a) = false
+isRefusal (refuses n) = true
+
+-- whatever meets a promise with an answer that refuses leaves in the slice what it held
+abbrev pub Leaves : {K B : Type 0} {A R S : K → Type 0} → ((κs : K) → A κs → R κs → S κs → Type 0) → ((κs : K) → R κs → Bool) → ((κs : K) → A κs → B) → ((κs : K) → S κs → B) → Type 0
+Leaves {K} {B} {A} {R} {S} Post refused held left = (κs : K) (a : A κs) (r : R κs) (s : S κs) → Post κs a r s → refused κs r ≡ true → left κs s ≡ held κs a
+
+-- the calls that are lent a slice to fill, by crate: lay, copy, samples, writer, typed
+pub data Lent : Type 0 where
+  layBytes : Lent
+  layShorts : Lent
+  layWords : Lent
+  layLongs : Lent
+  copyShortPairs : Lent
+  copyPatternPairs : Lent
+  copyShortReals : Lent
+  copyPatternReals : Lent
+  shortsAt : Lent
+  patternsAt : Lent
+  shortsOf : Lent
+  patternsOf : Lent
+  writeRaw : Lent
+  writeSsnc : Lent
+  writeSsnr : Lent
+  writeGsnc : Lent
+  writeSfnc : Lent
+  writeSfnr : Lent
+  writeGfnc : Lent
+  writeSiqp : Lent
+  writeSr : Lent
+  writeBw : Lent
+  writeGcbw : Lent
+  writeCf : Lent
+  writeSofh : Lent
+  writeBwof : Lent
+  writeLevel : Lent
+  writeEofh : Lent
+  writeIqdc : Lent
+  writeGiqp : Lent
+  writeGcf : Lent
+  writeGrg : Lent
+  writeText : Lent
+
+-- a refusal is false in lay and copy, and elsewhere an answer that has a number
+abbrev pub LeavesLent : Lent → Type 0
+LeavesLent layBytes = Leaves bytes.Post (λ κs r. not r) (λ κs a. a .1 .0 .now) (λ κs s. s .1 .0 .now)
+LeavesLent layShorts = Leaves shorts.Post (λ κs r. not r) (λ κs a. a .1 .1 .0 .now) (λ κs s. s .1 .1 .0 .now)
+LeavesLent layWords = Leaves words.Post (λ κs r. not r) (λ κs a. a .1 .1 .0 .now) (λ κs s. s .1 .1 .0 .now)
+LeavesLent layLongs = Leaves longs.Post (λ κs r. not r) (λ κs a. a .1 .1 .0 .now) (λ κs s. s .1 .1 .0 .now)
+LeavesLent copyShortPairs = Leaves short_pairs.Post (λ κs r. not r) (λ κs a. a .1 .1 .1 .1 .1 .1 .1 .0 .now) (λ κs s. s .1 .1 .1 .1 .1 .1 .1 .0 .now)
+LeavesLent copyPatternPairs = Leaves pattern_pairs.Post (λ κs r. not r) (λ κs a. a .1 .1 .1 .1 .1 .1 .1 .0 .now) (λ κs s. s .1 .1 .1 .1 .1 .1 .1 .0 .now)
+LeavesLent copyShortReals = Leaves short_reals.Post (λ κs r. not r) (λ κs a. a .1 .1 .1 .1 .0 .now) (λ κs s. s .1 .1 .1 .1 .0 .now)
+LeavesLent copyPatternReals = Leaves pattern_reals.Post (λ κs r. not r) (λ κs a. a .1 .1 .1 .1 .0 .now) (λ κs s. s .1 .1 .1 .1 .0 .now)
+LeavesLent shortsAt = Leaves shorts_at.Post (λ κs r. isRefusal (copiedSaid r)) (λ κs a. a .1 .1 .1 .1 .0 .now) (λ κs s. s .1 .1 .1 .1 .0 .now)
+LeavesLent patternsAt = Leaves patterns_at.Post (λ κs r. isRefusal (copiedSaid r)) (λ κs a. a .1 .1 .1 .1 .0 .now) (λ κs s. s .1 .1 .1 .1 .0 .now)
+LeavesLent shortsOf = Leaves shorts_of.Post (λ κs r. isRefusal (copiedSaid r)) (λ κs a. a .1 .1 .1 .1 .0 .now) (λ κs s. s .1 .1 .1 .1 .0 .now)
+LeavesLent patternsOf = Leaves patterns_of.Post (λ κs r. isRefusal (copiedSaid r)) (λ κs a. a .1 .1 .1 .1 .0 .now) (λ κs s. s .1 .1 .1 .1 .0 .now)
+LeavesLent writeRaw = Leaves write.Post (λ κs r. isRefusal (writtenSaid r)) (λ κs a. a .1 .1 .1 .0 .now) (λ κs s. s .1 .1 .1 .0 .now)
+LeavesLent writeSsnc = Leaves ssnc.Post (λ κs r. isRefusal (writtenSaid r)) (λ κs a. a .1 .1 .1 .0 .now) (λ κs s. s .1 .1 .1 .0 .now)
+LeavesLent writeSsnr = Leaves ssnr.Post (λ κs r. isRefusal (writtenSaid r)) (λ κs a. a .1 .1 .1 .0 .now) (λ κs s. s .1 .1 .1 .0 .now)
+LeavesLent writeGsnc = Leaves gsnc.Post (λ κs r. isRefusal (writtenSaid r)) (λ κs a. a .1 .1 .1 .0 .now) (λ κs s. s .1 .1 .1 .0 .now)
+LeavesLent writeSfnc = Leaves sfnc.Post (λ κs r. isRefusal (writtenSaid r)) (λ κs a. a .1 .1 .1 .0 .now) (λ κs s. s .1 .1 .1 .0 .now)
+LeavesLent writeSfnr = Leaves sfnr.Post (λ κs r. isRefusal (writtenSaid r)) (λ κs a. a .1 .1 .1 .0 .now) (λ κs s. s .1 .1 .1 .0 .now)
+LeavesLent writeGfnc = Leaves gfnc.Post (λ κs r. isRefusal (writtenSaid r)) (λ κs a. a .1 .1 .1 .0 .now) (λ κs s. s .1 .1 .1 .0 .now)
+LeavesLent writeSiqp = Leaves siqp.Post (λ κs r. isRefusal (writtenSaid r)) (λ κs a. a .1 .1 .0 .now) (λ κs s. s .1 .1 .0 .now)
+LeavesLent writeSr = Leaves sr.Post (λ κs r. isRefusal (writtenSaid r)) (λ κs a. a .1 .1 .0 .now) (λ κs s. s .1 .1 .0 .now)
+LeavesLent writeBw = Leaves bw.Post (λ κs r. isRefusal (writtenSaid r)) (λ κs a. a .1 .1 .0 .now) (λ κs s. s .1 .1 .0 .now)
+LeavesLent writeGcbw = Leaves gcbw.Post (λ κs r. isRefusal (writtenSaid r)) (λ κs a. a .1 .1 .0 .now) (λ κs s. s .1 .1 .0 .now)
+LeavesLent writeCf = Leaves cf.Post (λ κs r. isRefusal (writtenSaid r)) (λ κs a. a .1 .1 .0 .now) (λ κs s. s .1 .1 .0 .now)
+LeavesLent writeSofh = Leaves sofh.Post (λ κs r. isRefusal (writtenSaid r)) (λ κs a. a .1 .1 .0 .now) (λ κs s. s .1 .1 .0 .now)
+LeavesLent writeBwof = Leaves bwof.Post (λ κs r. isRefusal (writtenSaid r)) (λ κs a. a .1 .1 .1 .0 .now) (λ κs s. s .1 .1 .1 .0 .now)
+LeavesLent writeLevel = Leaves level.Post (λ κs r. isRefusal (writtenSaid r)) (λ κs a. a .1 .1 .0 .now) (λ κs s. s .1 .1 .0 .now)
+LeavesLent writeEofh = Leaves eofh.Post (λ κs r. isRefusal (writtenSaid r)) (λ κs a. a .1 .0 .now) (λ κs s. s .1 .0 .now)
+LeavesLent writeIqdc = Leaves iqdc.Post (λ κs r. isRefusal (writtenSaid r)) (λ κs a. a .1 .0 .now) (λ κs s. s .1 .0 .now)
+LeavesLent writeGiqp = Leaves giqp.Post (λ κs r. isRefusal (writtenSaid r)) (λ κs a. a .1 .1 .0 .now) (λ κs s. s .1 .1 .0 .now)
+LeavesLent writeGcf = Leaves gcf.Post (λ κs r. isRefusal (writtenSaid r)) (λ κs a. a .1 .1 .0 .now) (λ κs s. s .1 .1 .0 .now)
+LeavesLent writeGrg = Leaves grg.Post (λ κs r. isRefusal (writtenSaid r)) (λ κs a. a .1 .1 .0 .now) (λ κs s. s .1 .1 .0 .now)
+LeavesLent writeText = Leaves text.Post (λ κs r. isRefusal (writtenSaid r)) (λ κs a. a .1 .1 .0 .now) (λ κs s. s .1 .1 .0 .now)
+
+-- ---- by what a call answers
+
+refuses-by : {A : Type 0} (a : Answer A) → isRefusal a ≡ true → (n : ℕ) × (a ≡ refuses n)
+refuses-by (gives x) k = let z : _≡_ {A = ℕ} 0 1 = cc in absurd (omega arith)
+refuses-by (refuses n) k = (n, refl)
+
+-- the rule refuses where the answer does
+rule-refuses : {A : Type 0} {a : Answer A} (w : Answer A) → a ≡ w → isRefusal a ≡ true → (n : ℕ) × (w ≡ refuses n)
+rule-refuses w e k = refuses-by w (ap isRefusal (sym e) ∙ k)
+
+-- A call that refuses leaves the slice as it was, for each of them.
+pub refused-leaves : (f : Lent) → LeavesLent f
+refused-leaves layBytes = λ κs a r s p k. rw (sym (p .0) ∙ not-true r k) at (p .1)
+refused-leaves layShorts = λ κs a r s p k. rw (sym (p .0) ∙ not-true r k) at (p .1)
+refused-leaves layWords = λ κs a r s p k. rw (sym (p .0) ∙ not-true r k) at (p .1)
+refused-leaves layLongs = λ κs a r s p k. rw (sym (p .0) ∙ not-true r k) at (p .1)
+refused-leaves copyShortPairs = λ κs a r s p k. rw (not-true r k) at (p .1)
+refused-leaves copyPatternPairs = λ κs a r s p k. rw (not-true r k) at (p .1)
+refused-leaves copyShortReals = λ κs a r s p k. rw (not-true r k) at (p .1)
+refused-leaves copyPatternReals = λ κs a r s p k. rw (not-true r k) at (p .1)
+refused-leaves shortsAt = λ κs a r s p k. rw (rule-refuses _ (p .0) k .1) at (p .1)
+refused-leaves patternsAt = λ κs a r s p k. rw (rule-refuses _ (p .0) k .1) at (p .1)
+refused-leaves shortsOf = λ κs a r s p k. rw (rule-refuses _ (p .0) k .1) at (p .1)
+refused-leaves patternsOf = λ κs a r s p k. rw (rule-refuses _ (p .0) k .1) at (p .1)
+refused-leaves writeRaw = λ κs a r s p k. rw (rule-refuses _ (p .0) k .1) at (p .1)
+refused-leaves writeSsnc = λ κs a r s p k. rw (rule-refuses _ (p .0) k .1) at (p .1)
+refused-leaves writeSsnr = λ κs a r s p k. rw (rule-refuses _ (p .0) k .1) at (p .1)
+refused-leaves writeGsnc = λ κs a r s p k. rw (rule-refuses _ (p .0) k .1) at (p .1)
+refused-leaves writeSfnc = λ κs a r s p k. rw (rule-refuses _ (p .0) k .1) at (p .1)
+refused-leaves writeSfnr = λ κs a r s p k. rw (rule-refuses _ (p .0) k .1) at (p .1)
+refused-leaves writeGfnc = λ κs a r s p k. rw (rule-refuses _ (p .0) k .1) at (p .1)
+refused-leaves writeSiqp = λ κs a r s p k. rw (rule-refuses _ (p .0) k .1) at (p .1)
+refused-leaves writeSr = λ κs a r s p k. rw (rule-refuses _ (p .0) k .1) at (p .1)
+refused-leaves writeBw = λ κs a r s p k. rw (rule-refuses _ (p .0) k .1) at (p .1)
+refused-leaves writeGcbw = λ κs a r s p k. rw (rule-refuses _ (p .0) k .1) at (p .1)
+refused-leaves writeCf = λ κs a r s p k. rw (rule-refuses _ (p .0) k .1) at (p .1)
+refused-leaves writeSofh = λ κs a r s p k. rw (rule-refuses _ (p .0) k .1) at (p .1)
+refused-leaves writeBwof = λ κs a r s p k. rw (rule-refuses _ (p .0) k .1) at (p .1)
+refused-leaves writeLevel = λ κs a r s p k. rw (rule-refuses _ (p .0) k .1) at (p .1)
+refused-leaves writeEofh = λ κs a r s p k. rw (rule-refuses _ (p .0) k .1) at (p .1)
+refused-leaves writeIqdc = λ κs a r s p k. rw (rule-refuses _ (p .0) k .1) at (p .1)
+refused-leaves writeGiqp = λ κs a r s p k. rw (rule-refuses _ (p .0) k .1) at (p .1)
+refused-leaves writeGcf = λ κs a r s p k. rw (rule-refuses _ (p .0) k .1) at (p .1)
+refused-leaves writeGrg = λ κs a r s p k. rw (rule-refuses _ (p .0) k .1) at (p .1)
+refused-leaves writeText = λ κs a r s p k. rw (rule-refuses _ (p .0) k .1) at (p .1)
