@@ -4,6 +4,7 @@ use mathlib.Core.Bool.{Bool}
 use mathlib.Core.List.{List}
 use native.Mathlib.Omega.{arith}
 use mathlib.Core.Path.{_≡_, refl, ap, _∙_}
+use lib.IntN.{ℤ, pos}
 use Rattle.num.specs.Choice.{pick}
 use Rattle.num.specs.Answer.{Answer, gives, refuses}
 use Rattle.num.specs.declared.Order.{Order}
@@ -14,7 +15,10 @@ use Rattle.body.specs.declared.faults.Checked.the-variants.{Good, Malformed}
 use Rattle.body.specs.Check.{orElse}
 use Rattle.body.specs.Table.{Slot, Value, none, Row, sets, marks, leaves, samples, unknown, row, shapedBy, shaped}
 use Rattle.body.specs.declared.sampled.Shaped.the-variants.{NoSamples}
+use Rattle.body.specs.Values.{noNumber, noBand, number, centred}
 use Rattle.body.specs.declared.kinds.Kind.{Kind}
+use Rattle.body.specs.declared.values.Held.{Held}
+use Rattle.body.specs.declared.values.BandHeld.{BandHeld}
 use Rattle.state.specs.State.{setIn, withValues}
 use Rattle.state.specs.declared.State.{State}
 use Rattle.effect.specs.Says.{Says, verdictSaid, judged}
@@ -35,6 +39,20 @@ pub set-is-effect : {A : Type 0} {r : Taken} {v : Verdict} (x : Slot) (hold : A 
     (r .verdict ≡ v) × (r .shown ≡ noState) × (r .state ≡ withValues s (setIn x value (s .values))) → verdictSaid v ≡ judged a → value ≡ orElse (none x) hold a →
     IsEffect r (met a (withValues s (setIn x (orElse (none x) hold a) (s .values))))
 set-is-effect x hold a s h e q = met-is-effect a _ h e (ap (λ y. withValues s (setIn x y (s .values))) q)
+
+-- what was made of a reading that is the rule's is the effect by the rule
+pub read-is-effect : {A : Type 0} {r : Taken} {v : Verdict} {read rule : Answer A} {next n : State} → read ≡ rule →
+    (r .verdict ≡ v) × (r .shown ≡ noState) × (r .state ≡ next) → verdictSaid v ≡ judged read → next ≡ n → IsEffect r (met rule n)
+read-is-effect {rule = rule} {n = n} e h k q = met-is-effect rule n h (k ∙ ap judged e) q
+
+-- a bandwidth that was read, with an offset of 0
+centred-by : (a : Answer ℤ) {h : Held} → h ≡ orElse noNumber number a → orElse noBand centred a ≡ record { present = h .present; width = h .value; offset = pos 0 }
+centred-by (gives v) e = rw e
+centred-by (refuses n) e = rw e
+
+pub read-centred : {read rule : Answer ℤ} {h : Held} → read ≡ rule → h ≡ orElse noNumber number read →
+    orElse noBand centred rule ≡ record { present = h .present; width = h .value; offset = pos 0 }
+read-centred {rule = rule} e k = centred-by rule (k ∙ ap (orElse noNumber number) e)
 
 -- an answer to what is said of a data chunk is its effect
 pub data-is-effect : {r : Taken} {says : Says} {j k : Judged} (s : State) (g : Bool) → j ≡ k →

@@ -10,6 +10,7 @@ use crate::ready::data_effect;
 use crate::ready::grouped;
 use crate::ready::single;
 use crate::value;
+use body::BandHeld;
 use body::Kind;
 use num::Order;
 use state::State;
@@ -37,7 +38,7 @@ fn siqp(order: Order, body: &[u8], was: State) -> Taken
     ensures { λ r. ⌜ IsEffect r (effect order Kind.SIQP (now (body .entry)) was) ⌝ }
 {
     let read = body::siqp(order, body);
-    let value = value::held(read);
+    let value = value::held(read, value::NONE);
     let mut values = was.values;
     values.packing = value;
     set(value::of_number(read), was, values)
@@ -47,19 +48,26 @@ fn sr(order: Order, body: &[u8], was: State) -> Taken
     ensures { λ r. ⌜ IsEffect r (effect order Kind.SR (now (body .entry)) was) ⌝ }
 {
     let read = body::sr(order, body);
-    let value = value::held(read);
+    let value = value::held(read, value::NONE);
     let mut values = was.values;
     values.rate = value;
     set(value::of_number(read), was, values)
 }
 
+// BW__ sets the offset to 0.
 fn bw(order: Order, body: &[u8], was: State) -> Taken
     ensures { λ r. ⌜ IsEffect r (effect order Kind.BW (now (body .entry)) was) ⌝ }
 {
+    let offset = 0;
     let read = body::bw(order, body);
-    let value = value::centred(read);
+    let bandwidth = value::held(read, value::NONE);
+    let band = BandHeld {
+        present: bandwidth.present,
+        width: bandwidth.value,
+        offset,
+    };
     let mut values = was.values;
-    values.band = value;
+    values.band = band;
     set(value::of_number(read), was, values)
 }
 
@@ -77,7 +85,7 @@ fn gcbw(order: Order, body: &[u8], was: State) -> Taken
     ensures { λ r. ⌜ IsEffect r (effect order Kind.GCBW (now (body .entry)) was) ⌝ }
 {
     let read = body::bw(order, body);
-    let value = value::held(read);
+    let value = value::held(read, value::NONE);
     let mut values = was.values;
     values.group_band = value;
     set(value::of_number(read), was, values)
@@ -86,10 +94,11 @@ fn gcbw(order: Order, body: &[u8], was: State) -> Taken
 fn cf(order: Order, body: &[u8], was: State) -> Taken
     ensures { λ r. ⌜ IsEffect r (effect order Kind.CF (now (body .entry)) was) ⌝ }
 {
+    let absent = value::NONE;
     let read = body::cf(order, body);
-    let value = value::held(read);
+    let frequency = value::held(read, absent);
     let mut values = was.values;
-    values.centre = value;
+    values.centre = frequency;
     set(value::of_number(read), was, values)
 }
 

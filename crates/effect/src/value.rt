@@ -5,7 +5,7 @@ ghost use Rattle.body.specs.Levels.{levelSaid};
 ghost use Rattle.body.specs.Numbers.{numberSaid, bandSaid};
 ghost use Rattle.body.specs.Plain.{textSaid};
 ghost use Rattle.body.specs.Check.{orElse};
-ghost use Rattle.body.specs.Values.{noNumber, noBand, noLevel, number, centred, banded, amount, levelled};
+ghost use Rattle.body.specs.Values.{noBand, noLevel, number, banded, amount, levelled};
 ghost use Rattle.effect.specs.Says.{verdictSaid, judged};
 ghost use Rattle.effect.specs.Effect.{marked};
 use crate::Verdict;
@@ -19,29 +19,22 @@ use body::LevelRead;
 use body::NumberRead;
 use body::TextRead;
 
-pub(crate) fn held(read: NumberRead) -> Held
-    ensures { λ r. ⌜ r ≡ orElse noNumber number (numberSaid read) ⌝ }
+// A number that is absent.
+pub(crate) const NONE: Held = Held {
+    present: false,
+    value: 0,
+};
+
+// The number that was read, or `absent` where the body is malformed.
+pub(crate) fn held(read: NumberRead, absent: Held) -> Held
+    ensures { λ r. ⌜ r ≡ orElse absent number (numberSaid read) ⌝ }
 {
     match read {
         NumberRead::Is(v) => Held {
             present: true,
             value: v,
         },
-        NumberRead::Malformed(_) => body::no_number(),
-    }
-}
-
-// BW__ sets the offset to 0.
-pub(crate) fn centred(read: NumberRead) -> BandHeld
-    ensures { λ r. ⌜ r ≡ orElse noBand centred (numberSaid read) ⌝ }
-{
-    match read {
-        NumberRead::Is(v) => BandHeld {
-            present: true,
-            width: v,
-            offset: 0,
-        },
-        NumberRead::Malformed(_) => body::no_band(),
+        NumberRead::Malformed(_) => absent,
     }
 }
 

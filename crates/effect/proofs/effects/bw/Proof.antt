@@ -1,12 +1,9 @@
--- The value that is put into the state is the one that was read, or its absence.
-use mathlib.Core.Path.{ap, _∙_}
-use Rattle.body.specs.Numbers.{bw}
-use Rattle.body.specs.Check.{orElse}
-use Rattle.body.specs.Table.{band}
-use Rattle.body.specs.Values.{noBand, centred}
-use Rattle.effect.specs.Says.{judged}
+-- The value that is put into the state is the bandwidth that was read with an offset of 0, or its absence.
+use mathlib.Core.Path.{_≡_}
+use mir.Syntax.{w64}
+use mir.Val.{toZ, ofZ}
 use Rattle.effect.specs.Effect.{effect}
-use Rattle.effect.proofs.Laws.{set-is-effect}
+use Rattle.effect.proofs.Laws.{read-is-effect, read-centred}
 use borrow.Author.Needs.{needs}
 use Rattle.effect.proofs.effects.bw.Statement.{statement}
 use Rattle.effect.proofs.effects.bw.Tie as tie
@@ -14,8 +11,8 @@ use Rattle.effect.proofs.effects.bw.Tie as tie
 bw-requires : tie.Need-bw-requires
 bw-requires c κs = search needs
 
-centred-requires : tie.Need-centred-requires
-centred-requires c κs = search needs
+held-requires : tie.Need-held-requires
+held-requires c κs = search needs
 
 of-number-requires : tie.Need-of-number-requires
 of-number-requires c κs = search needs
@@ -26,11 +23,10 @@ set-requires c κs = search needs
 returns : tie.Need-returns
 unfolding effect
 returns c =
-    let a = c .before .before .before .before .before .before .args in
-    let e = c .before .before .before .before .bw .ensures in
-    set-is-effect band centred (bw (a .order) (a .body .now)) (a .was) (c .set .ensures)
-    (c .before .of-number .ensures ∙ ap judged e)
-    (c .before .before .before .centred .ensures ∙ ap (orElse noBand centred) e)
+    let e = c .before .before .before .before .before .bw .ensures in
+    let h = c .before .before .before .before .held in
+    let back : toZ w64 (ofZ w64 (h .result .value)) ≡ h .result .value = search needs in
+    read-is-effect e (c .set .ensures) (c .before .of-number .ensures) (rw (back, read-centred e (h .ensures)))
 
 pub bw-spec : {M : Type 1} → statement M
-bw-spec = tie.close (tie.spec bw-requires centred-requires of-number-requires set-requires returns)
+bw-spec = tie.close (tie.spec bw-requires held-requires of-number-requires set-requires returns)

@@ -1,12 +1,6 @@
 -- The value that is put into the state is the one that was read, or its absence.
-use mathlib.Core.Path.{ap, _∙_}
-use Rattle.body.specs.Numbers.{cf}
-use Rattle.body.specs.Check.{orElse}
-use Rattle.body.specs.Table.{centre}
-use Rattle.body.specs.Values.{noNumber, number}
-use Rattle.effect.specs.Says.{judged}
 use Rattle.effect.specs.Effect.{effect}
-use Rattle.effect.proofs.Laws.{set-is-effect}
+use Rattle.effect.proofs.Laws.{read-is-effect}
 use borrow.Author.Needs.{needs}
 use Rattle.effect.proofs.effects.cf.Statement.{statement}
 use Rattle.effect.proofs.effects.cf.Tie as tie
@@ -26,11 +20,9 @@ set-requires c κs = search needs
 returns : tie.Need-returns
 unfolding effect
 returns c =
-    let a = c .before .before .before .before .before .before .args in
     let e = c .before .before .before .before .cf .ensures in
-    set-is-effect centre number (cf (a .order) (a .body .now)) (a .was) (c .set .ensures)
-    (c .before .of-number .ensures ∙ ap judged e)
-    (c .before .before .before .held .ensures ∙ ap (orElse noNumber number) e)
+    let h = c .before .before .before .held .ensures in
+    read-is-effect e (c .set .ensures) (c .before .of-number .ensures) (rw (h, e))
 
 pub cf-spec : {M : Type 1} → statement M
 cf-spec = tie.close (tie.spec cf-requires held-requires of-number-requires set-requires returns)

@@ -1,4 +1,4 @@
--- The number that was read, or its absence.
+-- The number that was read, or what stands in its place.
 use mathlib.Core.Path.{_≡_}
 use mir.Syntax.{w64}
 use mir.Val.{toZ, ofZ}
@@ -12,9 +12,6 @@ enum-known-read c = search needs
 enum-told : tie.Need-enum-told
 enum-told c = search needs
 
-no-number-requires : tie.Need-no-number-requires
-no-number-requires c κs = search needs
-
 returns : tie.Need-returns
 returns c =
     let v = c .before .read .given .0 .0 in
@@ -22,7 +19,7 @@ returns c =
     rw (back, c .before .read .given .1)
 
 returns-2 : tie.Need-returns-2
-returns-2 c = rw (c .before .enum-told .given .1) (c .no-number .ensures)
+returns-2 c = rw (c .enum-told .given .1)
 
 pub held-spec : {M : Type 1} → statement M
-held-spec = tie.close (tie.spec enum-known-read enum-told no-number-requires returns returns-2)
+held-spec = tie.close (tie.spec enum-known-read enum-told returns returns-2)
