@@ -3,7 +3,8 @@ use mathlib.Core.Path.{sym, _∙_}
 use Rattle.effect.proofs.ask.ready_data.Reads as ready-data
 use Rattle.effect.proofs.effects.take.Reads as take
 use Rattle.claims.proofs.Promise.{OneAnswer}
-use Rattle.claims.proofs.Told.{asked-told, verdict-told}
+use Rattle.claims.proofs.Told.{asked-told}
+use Rattle.reader.proofs.Told.{verdict-told}
 use Rattle.effect.proofs.Lack.number.Reads as lack-number
 use Rattle.effect.proofs.Verdict.number.Reads as verdict-number
 

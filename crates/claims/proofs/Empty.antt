@@ -57,7 +57,7 @@ use Rattle.filecheck.proofs.Theorems.{file-told}
 use Rattle.filecheck.proofs.check.Reads as check
 use Rattle.claims.specs.Marked.{iqdc, whole}
 use Rattle.claims.proofs.Promise.{Allows, lent}
-use Rattle.claims.proofs.Told.{item-told}
+use Rattle.reader.proofs.Told.{item-told}
 
 -- a step in big order may give this answer
 abbrev pub Steps : Lfts 1 → Cursor → List ℕ → Stepped → Type 0

@@ -5,8 +5,8 @@ use Rattle.reader.proofs.Cursor.lose_step.Reads as lose_step
 use Rattle.reader.proofs.Cursor.new.Reads as new
 use Rattle.reader.proofs.Cursor.step.Reads as step
 use Rattle.reader.proofs.count.Reads as count
+use Rattle.reader.proofs.Told.{item-told}
 use Rattle.claims.proofs.Promise.{OneAnswer, OnePart}
-use Rattle.claims.proofs.Told.{item-told}
 use Rattle.reader.proofs.Item.number.Reads as number
 use Rattle.reader.proofs.part.body_of.Reads as body_of
 
