@@ -1,0 +1,4 @@
+pub mod Next
+pub mod Ends
+pub mod Bytes
+pub mod Runs
