@@ -65,8 +65,8 @@ module _ (o : Order) (s : List ℕ) where
   reading-ends = gives-all newCursor (new-sound s)
 
   -- End is given after the last item, and not before.
-  pub end-exactly : (c : Cursor) (gs : List Given) → GivesAll o s c gs → (k : ℕ) → (stepAfter k o s c .item ≡ gives end) ↔ (length gs ≤ k)
-  end-exactly c gs a k = (
+  pub ends-exactly : (c : Cursor) (gs : List Given) → GivesAll o s c gs → (k : ℕ) → (stepAfter k o s c .item ≡ gives end) ↔ (length gs ≤ k)
+  ends-exactly c gs a k = (
     λ e. omega (arith, lt-of-not-le (λ l. no-end (a .each k l .item) (a .each k l .some) e)),
     λ l. ap (λ (t : Step). t .item) (a .ends k l .step),
   )

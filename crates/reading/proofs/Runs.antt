@@ -18,7 +18,7 @@ use Rattle.ending.proofs.Runs.{came, Run, run-after, run-is-step}
 use Rattle.reading.specs.Bytes.{Between, Spans, ExactlyOne}
 use Rattle.reading.specs.Ends.{Sound, givenAt, AnswersItem, AnswersEnd}
 use Rattle.reading.proofs.Next.{new-sound}
-use Rattle.reading.proofs.Ends.{each, ends, gives-all, end-exactly}
+use Rattle.reading.proofs.Ends.{each, ends, gives-all, ends-exactly}
 use Rattle.reading.proofs.Bytes.{between-once, on}
 
 -- what m calls of step from c answer, where gs are the items
@@ -56,7 +56,7 @@ module _ (o : Order) (s : List ℕ) (c : Cursor) (h : Sound s c) (m : ℕ) (call
             });
         exactly = λ k l.
             let t = run-is-step m o s c calls r k l in
-            let w = end-exactly o s c gs (gives-all o s c h) k in
+            let w = ends-exactly o s c gs (gives-all o s c h) k in
             (λ e. w .0 (sym (t .item) ∙ ap itemSaid e), λ u. item-told (calls k .result .item) End (t .item ∙ w .1 u));
         spans = λ k l u. rw (run-after m o s c calls r k (omega arith), run-is-step m o s c calls r k l .cursor) (each o s k c h u .1);
         once = λ u k l v.
