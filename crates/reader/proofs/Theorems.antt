@@ -57,7 +57,7 @@ pub new-fit : Fit newCursor
 new-fit = refl
 
 -- the state before a chunk takes effect is good
-before-good : (step : Bool) (s : State) → both step (not (goodState s)) ≡ false → goodState (before step s) ≡ true
+pub before-good : (step : Bool) (s : State) → both step (not (goodState s)) ≡ false → goodState (before step s) ≡ true
 before-good true s h = not-false (goodState s) h
 before-good false s h = empty-good true
 

@@ -5,3 +5,5 @@ pub mod Runs
 pub mod Stretch
 pub mod Due
 pub mod Answers
+pub mod FromNew
+pub mod FromCalls

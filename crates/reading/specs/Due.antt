@@ -49,16 +49,16 @@ pub record SkippedDue (o : Order) (s : List ℕ) (c : Cursor) (p n : ℕ) : Type
   pub none : (k : ℕ) → p ≤ k → k < p + n → stops (showsAt o s k) ≡ false
   pub to : (p + n ≡ length s) ⊎ (stops (showsAt o s (p + n)) ≡ true)
 
--- an unfinished end of n bytes from p on: no refusal is due, p is the place, the stream shows an unfinished chunk there,
--- and the n bytes are all that are left
+-- an unfinished end of n bytes from p on: no refusal is due, p is the place, the stream shows an unfinished chunk
+-- there, and the n bytes are all that are left
 pub record UnfinishedDue (o : Order) (s : List ℕ) (c : Cursor) (p n : ℕ) : Type 0 where
   pub sound : Sound s c
   pub place : p ≡ c .place
   pub here : showsAt o s p ≡ Unfinished
   pub to : p + n ≡ length s
 
--- a chunk: no refusal is due, p is the place, and the stream shows there a complete chunk of this type and size; what is
--- said of it is what its body's effect says, on the state or, where the reader was searching, on an emptied one
+-- a chunk: no refusal is due, p is the place, and the stream shows there a complete chunk of this type and size; what
+-- is said of it is what the effect of its body says, on the state or, where the reader was searching, on an emptied one
 pub record ChunkDue (o : Order) (s : List ℕ) (c : Cursor) (p code size : ℕ) (says : Says) : Type 0 where
   pub sound : Sound s c
   pub place : p ≡ c .place

@@ -1,3 +1,4 @@
 pub mod Ends
 pub mod Bytes
 pub mod Due
+pub mod FromNew
