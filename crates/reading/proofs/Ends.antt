@@ -19,7 +19,7 @@ use Rattle.reading.specs.Ends.{Sound, stepAfter, givenAt, GivesItem, Giv
 use Rattle.reading.proofs.Next.{Next, Done, stands, new-sound}
 
 -- an item that is not the end is not End
-pub no-end : {a : Answer Item} {i : Item} → a ≡ gives i → isEnd i ≡ false → a ≡ gives end → ⊥
+no-end : {a : Answer Item} {i : Item} → a ≡ gives i → isEnd i ≡ false → a ≡ gives end → ⊥
 no-end {a} {i} e n h =
     let q : i ≡ end = cc in
     let w : false ≡ true = sym n ∙ ap isEnd q in
