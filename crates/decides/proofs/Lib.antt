@@ -1,2 +1,6 @@
 pub mod Past
 pub mod Carried
+pub mod Shown
+pub mod Last
+pub mod Promised
+pub mod Repeated

@@ -2,7 +2,7 @@
 use Prim.Native.Nat.{ℕ}
 use mathlib.Core.Path.{_≡_}
 use mathlib.Core.Bool.{Bool, true, false}
-use mathlib.Core.List.{List, [], _∷_, foldl}
+use mathlib.Core.List.{List, [], _∷_, _++_, foldl}
 use Rattle.num.specs.Choice.{pick, either}
 use Rattle.num.specs.declared.Order.{Order}
 use Rattle.frame.specs.Frames.{Frame, chunk, skipped, unfinished, ofChunk}
@@ -38,6 +38,10 @@ lastAfter x l f =
 abbrev pub lastOf : Slot → List Frame → Last
 lastOf x fs = foldl (lastAfter x) nothing fs
 
+-- whether the reader is searching after the first frames of a stream: at the start, and after a skipped stretch
+abbrev pub isSearching : List Frame → Bool
+isSearching fs = foldl (λ before f. isSkipped f) true fs
+
 -- a chunk of a kind that does not set the slot
 abbrev pub Leaves : Slot → Frame → Type 0
 Leaves x f = ofChunk ⊥ (λ code body. setBy (kindOf code) x ≡ false) f
@@ -46,6 +50,22 @@ Leaves x f = ofChunk ⊥ (λ code body. setBy (kindOf code) x ≡ false) f
 abbrev pub AllLeave : Slot → List Frame → Type 0
 AllLeave x [] = Unit {0}
 AllLeave x (f ∷ fs) = Leaves x f × AllLeave x fs
+
+-- of the first frames of a stream, this chunk is the last that sets the slot: only chunks that do not set it follow
+pub record LastIs (x : Slot) (fs : List Frame) (code : ℕ) (body : List ℕ) : Type 0 where
+  pub earlier : List Frame
+  pub later : List Frame
+  pub split : fs ≡ earlier ++ (chunk code body ∷ later)
+  pub setter : setBy (kindOf code) x ≡ true
+  pub others : AllLeave x later
+
+-- none of them has set the slot since the reader was last searching
+pub record NoneSince (x : Slot) (fs : List Frame) : Type 0 where
+  pub earlier : List Frame
+  pub later : List Frame
+  pub split : fs ≡ earlier ++ later
+  pub searching : isSearching earlier ≡ true
+  pub others : AllLeave x later
 
 -- ---- the value
 
