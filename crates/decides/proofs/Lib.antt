@@ -4,3 +4,4 @@ pub mod Shown
 pub mod Last
 pub mod Promised
 pub mod Repeated
+pub mod Link

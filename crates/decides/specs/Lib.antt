@@ -1,2 +1,3 @@
 pub mod Last
 pub mod Past
+pub mod Link
