@@ -5,3 +5,4 @@ pub mod Last
 pub mod Promised
 pub mod Repeated
 pub mod Link
+pub mod Mark

@@ -1,3 +1,4 @@
 pub mod Last
 pub mod Past
 pub mod Link
+pub mod Mark
