@@ -24,12 +24,13 @@ use Rattle.decides.specs.Last.{isSkipped, Last, nothing, set, lastAfter,
 -- ---- which chunk it is
 
 module _ (x : Slot) where
+  other-leaves : (l : Last) (g : Frame) (t : Bool) → isChunk g ≡ false → pick t ⊥ (ofChunk (Unit {0}) (λ code b. setBy (kindOf code) x ≡ false) g) →
+      pick t nothing (ofChunk l (λ code b. pick (setBy (kindOf code) x) (set code b) l) g) ≡ l
+  other-leaves l g true n h = absurd h
+  other-leaves l g false n h = other-made l (λ code b. pick (setBy (kindOf code) x) (set code b) l) g n
+
   leaves-one : (l : Last) (f : Frame) → Leaves x f → lastAfter x l f ≡ l
-  leaves-one l f =
-      frame-by (λ (g : Frame). Leaves x g → lastAfter x l g ≡ l)
-      (λ code b h. rw h)
-      (λ g n h. absurd (rw (other-made ⊥ (λ code b. setBy (kindOf code) x ≡ false) g n) at h))
-      f
+  leaves-one l f = frame-by (λ (g : Frame). Leaves x g → lastAfter x l g ≡ l) (λ code b h. rw h) (λ g n h. other-leaves l g (isSkipped g) n h) f
 
   leaves-all : (l : Last) (gs : List Frame) → AllLeave x gs → foldl (lastAfter x) l gs ≡ l
   leaves-all l [] h = refl

@@ -2,6 +2,7 @@ pub mod Past
 pub mod Carried
 pub mod Shown
 pub mod Last
+pub mod Which
 pub mod Promised
 pub mod Repeated
 pub mod Link

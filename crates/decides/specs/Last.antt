@@ -42,16 +42,15 @@ lastOf x fs = foldl (lastAfter x) nothing fs
 abbrev pub isSearching : List Frame → Bool
 isSearching fs = foldl (λ before f. isSkipped f) true fs
 
--- a chunk of a kind that does not set the slot
+-- neither a chunk of a kind that sets the slot nor a skipped stretch
 abbrev pub Leaves : Slot → Frame → Type 0
-Leaves x f = ofChunk ⊥ (λ code body. setBy (kindOf code) x ≡ false) f
+Leaves x f = pick (isSkipped f) ⊥ (ofChunk (Unit {0}) (λ code body. setBy (kindOf code) x ≡ false) f)
 
--- and only such chunks
 abbrev pub AllLeave : Slot → List Frame → Type 0
 AllLeave x [] = Unit {0}
 AllLeave x (f ∷ fs) = Leaves x f × AllLeave x fs
 
--- of the first frames of a stream, this chunk is the last that sets the slot: only chunks that do not set it follow
+-- of the first frames of a stream, this chunk is the last that sets the slot, and no stretch was skipped after it
 pub record LastIs (x : Slot) (fs : List Frame) (code : ℕ) (body : List ℕ) : Type 0 where
   pub earlier : List Frame
   pub later : List Frame
@@ -59,7 +58,7 @@ pub record LastIs (x : Slot) (fs : List Frame) (code : ℕ) (body : List ℕ) : 
   pub setter : setBy (kindOf code) x ≡ true
   pub others : AllLeave x later
 
--- none of them has set the slot since the reader was last searching
+-- none of them has set the slot since the reader was last searching, at the start or after a skipped stretch
 pub record NoneSince (x : Slot) (fs : List Frame) : Type 0 where
   pub earlier : List Frame
   pub later : List Frame
