@@ -7,7 +7,7 @@ use native.Mathlib.Omega.{arith}
 use lib.ListN.{length, take, drop}
 use Rattle.num.specs.Choice.{pick}
 use Rattle.num.specs.declared.Order.{Order}
-use Rattle.frame.specs.Frames.{Frame, chunk, isChunk, frames}
+use Rattle.frame.specs.Frames.{Frame, frames}
 use Rattle.frame.proofs.Looks.{frame-by, other-made}
 use Rattle.body.specs.Kind.{kindOf}
 use Rattle.body.specs.Table.{Slot, none, Row, sets, marks, leaves, samples, unknown, row, setBy}
@@ -63,20 +63,23 @@ module _ (o : Order) (x : Slot) where
   fold-last c l [] e = e
   fold-last c l (f ∷ fs) e = fold-last (past o c f) (lastAfter x l f) fs (past-last c l f e)
 
-  -- From a cursor whose value is that of a chunk, or absent where the step is yet to be regained, so many steps on it is that of the last chunk that sets it.
+  -- Where the value that a chunk would find at a cursor is that of l, which is a chunk or none, the value that it would find k steps
+  -- on is that of the last chunk that sets it, and of l if none of those passed does.
   pub carried-last : (k : ℕ) (s : List ℕ) (c : Cursor) (l : Last) → Fit c → c .place ≤ length s → valueIn x (found c .values) ≡ valueOf o x l →
       valueIn x (found (after k o s c) .values) ≡ valueOf o x (foldl (lastAfter x) l (take k (frames o (drop (c .place) s))))
   carried-last k s c l f h e = rw (after-past k o s c f h) (fold-last c l (take k (frames o (drop (c .place) s))) e)
 
 module _ (o : Order) (s : List ℕ) (k : ℕ) where
-  -- The values that a chunk finds, where it is item k of a stream that is read from a new cursor, are those of the last chunks before it.
+  -- A chunk that is item k of a stream, read from a new cursor, finds in each slot the value of the last chunk that sets it since the
+  -- step was regained.
   pub found-last : (x : Slot) → valueIn x (found (after k o s newCursor) .values) ≡ lastValue o (take k (frames o s)) x
   found-last x = carried-last o x k s newCursor nothing new-fit (omega arith) (in-built none x)
 
-  -- So after k steps a cursor that is in step holds, in each slot, the value of the last chunk that sets it.
+  -- So a cursor that is in step after k steps holds just these values.
   pub cursor-last : after k o s newCursor .«in_step» ≡ true → (x : Slot) → valueIn x (after k o s newCursor .state .values) ≡ lastValue o (take k (frames o s)) x
   cursor-last e x = rw e at (found-last x)
 
+  -- The same of all slots at once.
   pub found-values : found (after k o s newCursor) .values ≡ lastValues o (take k (frames o s))
   found-values =
       same-values (found (after k o s newCursor) .values) (lastValues o (take k (frames o s)))

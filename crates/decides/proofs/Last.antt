@@ -1,8 +1,8 @@
 -- Which chunk is the last one, and what is shown of its value.
 use Prim.Native.Nat.{ℕ}
-use mathlib.Core.Path.{_≡_, refl, ap, sym, _∙_}
+use mathlib.Core.Path.{_≡_, refl, ap, _∙_}
 use mathlib.Core.Bool.{Bool, true, false}
-use mathlib.Core.List.{List, [], _∷_, _++_, foldl, foldl-append}
+use mathlib.Core.List.{List, [], _∷_, foldl, foldl-append}
 use native.Mathlib.Omega.{arith}
 use lib.Dec.{eqb}
 use Rattle.num.specs.Answer.{Answer, gives, refuses}
@@ -18,7 +18,7 @@ use Rattle.body.specs.declared.kinds.Kind.{Kind}
 use Rattle.state.specs.State.{valueIn, setIn, built}
 use Rattle.state.specs.declared.Values.{Values}
 use Rattle.state.proofs.Slots.{in-built, set-other}
-use Rattle.effect.specs.Ready.{inGroup}
+use Rattle.effect.specs.Ready.{hertzOf, gainsOf, inGroup}
 use Rattle.decides.specs.Last.{isSkipped, Last, nothing, set, lastAfter, lastOf, Leaves, AllLeave, LastIs, NoneSince, valueBy, valueOf, lastValue, lastValues, groupShaped, shownBy, isCounted}
 
 -- ---- which chunk it is
@@ -41,14 +41,14 @@ module _ (x : Slot) where
   searching-by t l [] h e = h e
   searching-by t l (f ∷ fs) h e = searching-by (isSkipped f) (lastAfter x l f) fs (λ q. rw q) e
 
-  -- where only chunks that do not set the slot came since the reader was searching, there is no last one
+  -- where no chunk has set the slot since the reader was searching, there is no last one
   pub none-since : (fs : List Frame) → NoneSince x fs → lastOf x fs ≡ nothing
   none-since fs n =
       ap (lastOf x) (n .split)
       ∙ foldl-append (lastAfter x) nothing (n .earlier) (n .later)
       ∙ rw (searching-by true nothing (n .earlier) (λ q. refl) (n .searching)) (leaves-all nothing (n .later) (n .others))
 
-  -- where only such chunks follow one that sets it, that one is the last
+  -- where one has, and neither a chunk that sets it nor a skipped stretch follows, that one is the last
   pub last-is : (fs : List Frame) (code : ℕ) (b : List ℕ) → LastIs x fs code b → lastOf x fs ≡ set code b
   last-is fs code b n =
       ap (lastOf x) (n .split)
@@ -138,27 +138,33 @@ module _ (x : Slot) (v : Values) where
       set-other gains _ _ x (h .1) ∙ set-other frequencies _ v x (h .0)
   all-by false e = refl
 
--- Values that are shown, with a chunk of a kind, as those of the last chunks among some frames.
-module _ (o : Order) (k : Kind) (fs : List Frame) (shown : Values) (e : shown ≡ shownBy k (lastValues o fs)) (x : Slot) where
-  absent : lastValue o fs x ≡ none x → valueIn x shown ≡ none x
-  absent h = rw e (none-by x (lastValues o fs) (groupShaped (shaped k)) (in-built (lastValue o fs) x ∙ h))
+-- Values that are shown with a chunk of a kind, as those of the last chunks among some frames.
+module _ (o : Order) (k : Kind) (fs : List Frame) (shown : Values) (e : shown ≡ shownBy k (lastValues o fs)) where
+  -- A group chunk shows the last frequencies and gains where their count is that of the last group packing, and else none.
+  pub last-group : groupShaped (shaped k) ≡ true →
+      (shown .frequencies ≡ hertzOf (lastValue o fs group .n) (lastValue o fs frequencies)) × (shown .gains ≡ gainsOf (lastValue o fs group .n) (lastValue o fs gains))
+  last-group h = rw (e, h) (refl, refl)
 
-  -- No chunk has set the slot since the step was regained: the value is shown as absent.
-  pub last-none : NoneSince x fs → valueIn x shown ≡ none x
-  last-none n = absent (ap (valueOf o x) (none-since x fs n))
+  module _ (x : Slot) where
+    absent : lastValue o fs x ≡ none x → valueIn x shown ≡ none x
+    absent h = rw e (none-by x (lastValues o fs) (groupShaped (shaped k)) (in-built (lastValue o fs) x ∙ h))
 
-  module _ (code : ℕ) (b : List ℕ) (l : LastIs x fs code b) where
-    -- The last chunk that set it was malformed: absent too.
-    pub last-malformed : (n : ℕ) → verdict o (kindOf code) b ≡ refuses n → valueIn x shown ≡ none x
-    last-malformed n h = absent (ap (valueOf o x) (last-is x fs code b l) ∙ value-malformed o x b code n h)
+    -- No chunk has set the slot since the step was regained: the value is shown as absent.
+    pub last-none : NoneSince x fs → valueIn x shown ≡ none x
+    last-none n = absent (ap (valueOf o x) (none-since x fs n))
 
-    -- It was well-formed: the value is that of its body, read and held as the row of its kind says; in a group chunk, frequencies and
-    -- gains are left out.
-    pub last-well : {A : Type 0} (hold : A → Value x) (read : Order → List ℕ → Answer A) (a : A) → row (kindOf code) ≡ sets x hold read → read o b ≡ gives a →
-        both (groupShaped (shaped k)) (isCounted x) ≡ false → valueIn x shown ≡ hold a
-    last-well hold read a h q n =
-        rw e
-        (all-by x (lastValues o fs) (groupShaped (shaped k)) n
-        ∙ in-built (lastValue o fs) x
-        ∙ ap (valueOf o x) (last-is x fs code b l)
-        ∙ value-well o x b hold read code a h q)
+    module _ (code : ℕ) (b : List ℕ) (l : LastIs x fs code b) where
+      -- The last chunk that sets it is malformed: the value is shown as absent.
+      pub last-malformed : (n : ℕ) → verdict o (kindOf code) b ≡ refuses n → valueIn x shown ≡ none x
+      last-malformed n h = absent (ap (valueOf o x) (last-is x fs code b l) ∙ value-malformed o x b code n h)
+
+      -- It is well-formed: the value is that of its body, read and held as the row of its kind says. Of the frequencies and gains that a
+      -- group chunk shows, last-group speaks.
+      pub last-well : {A : Type 0} (hold : A → Value x) (read : Order → List ℕ → Answer A) (a : A) → row (kindOf code) ≡ sets x hold read → read o b ≡ gives a →
+          both (groupShaped (shaped k)) (isCounted x) ≡ false → valueIn x shown ≡ hold a
+      last-well hold read a h q n =
+          rw e
+          (all-by x (lastValues o fs) (groupShaped (shaped k)) n
+          ∙ in-built (lastValue o fs) x
+          ∙ ap (valueOf o x) (last-is x fs code b l)
+          ∙ value-well o x b hold read code a h q)

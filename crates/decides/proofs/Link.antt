@@ -4,11 +4,15 @@ use mathlib.Core.Path.{_≡_, refl, ap, sym, _∙_}
 use mathlib.Core.Bool.{Bool, true, false}
 use native.Mathlib.Omega.{arith}
 use lib.Ieee.{ofBits}
+use lib.ListN.{take, drop}
 use Rattle.num.specs.Answer.{gives}
+use Rattle.num.specs.Number.{bytesOf}
 use Rattle.num.specs.declared.Order.the-variants.{Big}
+use Rattle.frame.specs.Frames.{framesBy, frames}
 use Rattle.frame.specs.Place.{starts, shows, gap}
-use Rattle.body.specs.Kind.{known, kindIn, kindOf}
-use Rattle.body.specs.Table.{centre, none}
+use Rattle.body.specs.Kind.{codeOf, known, kindIn, kindOf}
+use Rattle.body.specs.Table.{centre, none, setBy}
+use Rattle.body.specs.declared.kinds.Kind.the-variants.{CF}
 use Rattle.body.specs.declared.values.Held.{Held}
 use Rattle.state.specs.Good.{goodFrom, goodValues, goodLists}
 use Rattle.state.specs.State.{valueIn}
@@ -19,6 +23,7 @@ use Rattle.reader.specs.IsStep.{IsStep}
 use Rattle.reader.specs.Step.{newCursor, stepOf, after}
 use Rattle.ending.proofs.Calls.{NewCall, new-met, StepCall}
 use Rattle.ending.proofs.Runs.{Run, run-is-step}
+use Rattle.decides.specs.Last.{LastIs, NoneSince}
 use Rattle.decides.specs.Link.{dropped, unbroken, stepNumber, readyAt, tuned}
 
 -- Before the link drops, the data is shown with the frequency.
@@ -35,6 +40,15 @@ after-drop = (refl, refl)
 pub no-drop : (stepNumber unbroken 4 .item ≡ gives (readyAt 84)) × (valueIn centre (stepNumber unbroken 4 .shown .values) ≡ tuned)
 unfolding stepOf after goodValues goodLists goodFrom ofBits gap shows starts kindOf kindIn known effect
 no-drop = (refl, refl)
+
+-- What the last one is, in both: no chunk has set the frequency since the drop, and where there is no drop the CF__ is the last that did.
+pub dropped-none : NoneSince centre (take 5 (frames Big dropped))
+unfolding framesBy gap shows starts kindOf kindIn known setBy
+dropped-none = record { earlier = take 4 (frames Big dropped); later = take 1 (drop 4 (frames Big dropped)); split = refl; searching = refl; others = (refl, tt) }
+
+pub unbroken-last : LastIs centre (take 4 (frames Big unbroken)) (codeOf CF) (bytesOf Big 8 100000000000000)
+unfolding framesBy gap shows starts kindOf kindIn known setBy
+unbroken-last = record { earlier = take 1 (frames Big unbroken); later = take 2 (drop 2 (frames Big unbroken)); split = refl; setter = refl; others = (refl, (refl, tt)) }
 
 absent-not-tuned : none centre ≡ tuned → ⊥
 absent-not-tuned q =

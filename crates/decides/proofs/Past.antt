@@ -65,7 +65,7 @@ after-by k o s c false e f h r =
     ∙ r c f h
     ∙ rw (n, take-nil k)
 
--- So many steps, from a cursor that number 3 is not due to and that stands within the stream, move it past so many of the frames ahead of it.
+-- From a cursor within the stream for which number 3 is not due, so many steps move it past so many of the frames ahead of it.
 pub after-past : (k : ℕ) (o : Order) (s : List ℕ) (c : Cursor) → Fit c → c .place ≤ length s → after k o s c ≡ foldl (past o) c (take k (frames o (drop (c .place) s)))
 unfolding after
 after-past zero o s c f h = refl

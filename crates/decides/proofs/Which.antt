@@ -4,8 +4,7 @@ use mathlib.Core.Path.{_≡_, refl, ap}
 use mathlib.Core.Bool.{Bool, true, false}
 use mathlib.Core.List.{List, [], _∷_, _++_, foldl}
 use mathlib.Core.Logic.{_⊎_, inl, inr}
-use Rattle.num.specs.Choice.{pick}
-use Rattle.frame.specs.Frames.{Frame, chunk, isChunk, ofChunk}
+use Rattle.frame.specs.Frames.{Frame, chunk, isChunk}
 use Rattle.frame.proofs.Looks.{frame-by, other-made}
 use Rattle.body.specs.Kind.{kindOf}
 use Rattle.body.specs.Table.{Slot, setBy}

@@ -9,7 +9,6 @@ use Rattle.frame.specs.Frames.{chunkBytes}
 use Rattle.body.specs.Kind.{codeOf}
 use Rattle.body.specs.Values.{number}
 use Rattle.body.specs.declared.kinds.Kind.the-variants.{SSNR, SR, CF}
-use Rattle.body.specs.declared.sampled.Data.{Data}
 use Rattle.body.specs.declared.values.Held.{Held}
 use Rattle.effect.specs.Says.{ready}
 use Rattle.reader.specs.Item.{Item, chunk}

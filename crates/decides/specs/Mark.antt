@@ -40,17 +40,20 @@ isStretch (skipped place n) = true
 isStretch (unfinished place n) = false
 isStretch (chunk place code size says) = false
 
+-- a refusal, the end and an unfinished end leave the mark
 abbrev pub does : Answer Item → Does
 does (refuses n) = leavesIt
 does (gives i) =
     pick (isStretch i) setsIt (ofChunk leavesIt (λ place code size says. chunkDoes (row (kindOf code)) says) i)
 
+-- the mark after such an answer
 abbrev pub markAfter : Does → Bool → Bool
 markAfter setsIt mark = true
 markAfter clearsIt mark = false
 markAfter leavesIt mark = mark
 
--- the mark before answer k of a reading: set at the start, where the first chunk is yet to regain the step
+-- the mark that answer k of a reading finds, as all answers before it leave it; set at the start, where the first chunk is
+-- yet to regain the step
 unfoldable pub markBefore : (ℕ → Answer Item) → ℕ → Bool
 markBefore answer zero = true
 markBefore answer (suc k) = markAfter (does (answer k)) (markBefore answer k)
