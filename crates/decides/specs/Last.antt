@@ -68,7 +68,7 @@ pub record NoneSince (x : Slot) (fs : List Frame) : Type 0 where
 
 -- ---- the value
 
--- what a chunk leaves in the slot that its kind sets: what its body says, or an absent value where the body is malformed
+-- what a chunk leaves in the slot that its kind sets: what its body says, or an absent value where it is malformed
 abbrev pub valueBy : Row → Order → List ℕ → (x : Slot) → Value x
 valueBy (sets y hold read) o body x = valueIn x (setIn y (orElse (none y) hold (read o body)) (built none))
 valueBy (marks read) o body x = none x

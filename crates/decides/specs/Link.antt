@@ -1,5 +1,5 @@
--- A link that drops for a moment, as two streams in big order: one in which bytes were lost, and one with the same chunks in
--- step.
+-- A link that drops for a moment, as two streams in big order: one in which bytes were lost, and one with the same
+-- chunks and nothing lost.
 use Prim.Native.Nat.{ℕ}
 use mathlib.Core.List.{List, [], _∷_, _++_}
 use lib.IntN.{pos}

@@ -52,8 +52,8 @@ markAfter setsIt mark = true
 markAfter clearsIt mark = false
 markAfter leavesIt mark = mark
 
--- the mark that answer k of a reading finds, as all answers before it leave it; set at the start, where the first chunk is
--- yet to regain the step
+-- the mark that answer k of a reading finds, as all answers before it leave it; set at the start, where the first chunk
+-- is yet to regain the step
 unfoldable pub markBefore : (ℕ → Answer Item) → ℕ → Bool
 markBefore answer zero = true
 markBefore answer (suc k) = markAfter (does (answer k)) (markBefore answer k)
