@@ -27,6 +27,13 @@ use Rattle.writer.proofs.Laws.{taken-size, written, next-given}
 use Rattle.writer.proofs.Theorems.{chunk-length, behind-header, written-one-by-one, read-back}
 use Rattle.accepted.specs.Read.{ReadAs, behind, AllRead, StepsRead}
 
+-- the next place is the one behind the record
+pub next-behind : (o : Order) (r : Record) (whole place next : ℕ) → writeOf o (r .code) (r .body) whole place ≡ gives next → next ≡ behind place r
+next-behind o r whole place next e =
+    let g = next-given o (r .code) (r .body) whole place next e in
+    let w : _≡_ {A = Answer ℕ} (gives next) (gives (behind place r)) = sym e ∙ written o (r .code) (r .body) whole place (g .0) (g .1) in
+    cc
+
 -- ---- what acceptance of a whole run says of the records
 
 abbrev Room : Order → List Record → List ℕ → ℕ → Type 0
@@ -42,8 +49,7 @@ module _ (o : Order) (r : Record) (rs : List Record) (d : List ℕ) (place n : �
   room-by (gives next) e h go =
       let c = chunkBytes o (r .code) (r .body) in
       let g = next-given o (r .code) (r .body) (length d) place next e in
-      let w : _≡_ {A = Answer ℕ} (gives next) (gives (place + 12 + length (r .body))) = sym e ∙ written o (r .code) (r .body) (length d) place (g .0) (g .1) in
-      let q : next ≡ place + 12 + length (r .body) = cc in
+      let q = next-behind o r (length d) place next e in
       let m : length c ≡ 12 + length (r .body) = chunk-length o (r .code) (r .body) in
       let l : length (splice d place c) ≡ length d = length-splice d place c (omega (arith, g .1)) in
       let t = go (splice d place c) next (omega (arith, g .1)) h in
@@ -79,7 +85,7 @@ module _ (o : Order) (s : List ℕ) where
 
   -- its steps give the records and then End, and so do the items ahead of it
   read-on : (rs : List Record) (c : Cursor) → drop (c .place) s ≡ writtenAll o rs → c .place ≤ length s → Fit c → Each (Taken o) rs → Each Typed rs →
-      StepsRead o s c rs × AllRead s (c .place) rs (ahead o s c)
+      StepsRead o s c (c .place) rs × AllRead s (c .place) rs (ahead o s c)
   unfolding writtenAll itemsFrom
   read-on [] c e h f k t =
       let n : length (drop (c .place) s) ≡ 0 = ap length e in
@@ -91,7 +97,7 @@ module _ (o : Order) (s : List ℕ) where
       let g = read-on rs (x .cursor) (a .3) (a .2) (rw (a .0) at (step-keeps-fit o s c f)) (k .1) (t .1) in
       let u : ahead o s c ≡ told (x .item) (x .shown) (ahead o s (x .cursor)) = rw (a .0) at (one o s c (omega (arith, a .2)) f) in
       let i : ReadAs s (c .place) r _ = record { says = _; item = refl; body = a .1 } in
-      (rw (a .0) (_, refl, i, g .0), rw u (i, g .1))
+      (rw (a .0) (i, g .0), rw u (i, g .1))
 
 module _ (o : Order) (rs : List Record) (d : List ℕ) (n : ℕ) (e : writeAll o rs d 0 .place ≡ gives n) where
   taken : Each (Taken o) rs
@@ -117,7 +123,7 @@ module _ (o : Order) (rs : List Record) (d : List ℕ) (n : ℕ) (e : writeAll o
     pub accepted-frames : frames o (take n (writeAll o rs d 0 .slice)) ≡ map chunkOf rs
     accepted-frames = rw accepted-bytes (read-back o rs taken t)
 
-    both-read : let s : List ℕ = take n (writeAll o rs d 0 .slice) in StepsRead o s newCursor rs × AllRead s 0 rs (items o s)
+    both-read : let s : List ℕ = take n (writeAll o rs d 0 .slice) in StepsRead o s newCursor 0 rs × AllRead s 0 rs (items o s)
     both-read = read-on o (take n (writeAll o rs d 0 .slice)) rs newCursor accepted-bytes (omega arith) new-fit taken t
 
     -- So are the items: one to one the records, each of its type, size and body.
@@ -125,5 +131,5 @@ module _ (o : Order) (rs : List Record) (d : List ℕ) (n : ℕ) (e : writeAll o
     accepted-items = both-read .1
 
     -- And so are the steps of a reader from its start: as many as records, and then comes End.
-    pub accepted-steps : let s : List ℕ = take n (writeAll o rs d 0 .slice) in StepsRead o s newCursor rs
+    pub accepted-steps : let s : List ℕ = take n (writeAll o rs d 0 .slice) in StepsRead o s newCursor 0 rs
     accepted-steps = both-read .0

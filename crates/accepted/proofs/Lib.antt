@@ -1,1 +1,4 @@
 pub mod Accepted
+pub mod Runs
+pub mod Written
+pub mod Calls
