@@ -4,7 +4,7 @@ use mathlib.Core.Path.{_≡_, refl, ap, sym, _∙_}
 use mathlib.Core.List.{List}
 use native.Mathlib.Omega.{arith}
 use lib.ListN.{length}
-use Rattle.num.specs.Answer.{Answer, gives}
+use Rattle.num.specs.Answer.{gives}
 use Rattle.num.specs.declared.Order.{Order}
 use Rattle.reader.specs.Item.{Item, end, itemSaid}
 use Rattle.reader.specs.Step.{newCursor, stepOf, after}
