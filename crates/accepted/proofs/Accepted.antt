@@ -34,31 +34,36 @@ next-behind o r whole place next e =
     let w : _≡_ {A = Answer ℕ} (gives next) (gives (behind place r)) = sym e ∙ written o (r .code) (r .body) whole place (g .0) (g .1) in
     cc
 
--- ---- what acceptance of a whole run says of the records
-
-abbrev Room : Order → List Record → List ℕ → ℕ → Type 0
-Room o rs d place = Each (Taken o) rs × (place + length (writtenAll o rs) ≤ length d)
+-- ---- what a run says of its records where it does not end in a refusal
 
 module _ (o : Order) (r : Record) (rs : List Record) (d : List ℕ) (place n : ℕ) where
-  room-by : (a : Answer ℕ) → writeOf o (r .code) (r .body) (length d) place ≡ a →
+  first-by : (a : Answer ℕ) → writeOf o (r .code) (r .body) (length d) place ≡ a →
       let d' : List ℕ = laidBy a d place (chunkBytes o (r .code) (r .body)) in
       thenNext a d' (λ next. writeAll o rs d' next) .place ≡ gives n →
-      ((e : List ℕ) (next : ℕ) → next ≤ length e → writeAll o rs e next .place ≡ gives n → Room o rs e next) → Room o (r ∷ rs) d place
-  unfolding writtenAll
-  room-by (refuses k) e h go = let z : _≡_ {A = ℕ} 0 1 = cc in absurd (omega arith)
-  room-by (gives next) e h go =
-      let c = chunkBytes o (r .code) (r .body) in
-      let g = next-given o (r .code) (r .body) (length d) place next e in
-      let q = next-behind o r (length d) place next e in
-      let m : length c ≡ 12 + length (r .body) = chunk-length o (r .code) (r .body) in
-      let l : length (splice d place c) ≡ length d = length-splice d place c (omega (arith, g .1)) in
-      let t = go (splice d place c) next (omega (arith, g .1)) h in
-      ((g .0, t .0), omega (arith, length-append c (writtenAll o rs), t .1))
+      (next : ℕ) × (writeOf o (r .code) (r .body) (length d) place ≡ gives next) × (writeAll o rs (splice d place (chunkBytes o (r .code) (r .body))) next .place ≡ gives n)
+  first-by (gives next) e h = (next, e, h)
+  first-by (refuses k) e h = let z : _≡_ {A = ℕ} 0 1 = cc in absurd (omega arith)
 
-room : (o : Order) (rs : List Record) (d : List ℕ) (place n : ℕ) → place ≤ length d → writeAll o rs d place .place ≡ gives n → Room o rs d place
-unfolding writeAll writtenAll
+  -- its first record is accepted, and then the others are
+  pub first-next : writeAll o (r ∷ rs) d place .place ≡ gives n →
+      (next : ℕ) × (writeOf o (r .code) (r .body) (length d) place ≡ gives next) × (writeAll o rs (splice d place (chunkBytes o (r .code) (r .body))) next .place ≡ gives n)
+  unfolding writeAll
+  first-next h = first-by (writeOf o (r .code) (r .body) (length d) place) refl h
+
+-- each of its records may be written, and there is room for all
+room : (o : Order) (rs : List Record) (d : List ℕ) (place n : ℕ) → place ≤ length d → writeAll o rs d place .place ≡ gives n →
+    Each (Taken o) rs × (place + length (writtenAll o rs) ≤ length d)
+unfolding writtenAll
 room o [] d place n h e = (tt, omega arith)
-room o (r ∷ rs) d place n h e = room-by o r rs d place n (writeOf o (r .code) (r .body) (length d) place) refl e (λ l next. room o rs l next n)
+room o (r ∷ rs) d place n h e =
+    let c = chunkBytes o (r .code) (r .body) in
+    let b = first-next o r rs d place n e in
+    let g = next-given o (r .code) (r .body) (length d) place (b .0) (b .1) in
+    let q = next-behind o r (length d) place (b .0) (b .1) in
+    let m : length c ≡ 12 + length (r .body) = chunk-length o (r .code) (r .body) in
+    let l : length (splice d place c) ≡ length d = length-splice d place c (omega (arith, g .1)) in
+    let t = room o rs (splice d place c) (b .0) n (omega (arith, g .1)) (b .2) in
+    ((g .0, t .0), omega (arith, length-append c (writtenAll o rs), t .1))
 
 -- ---- what a cursor gives that stands at the bytes of some records
 

@@ -18,11 +18,11 @@ use Rattle.state.specs.declared.State.{State}
 use Rattle.effect.specs.Effect.{effect}
 use Rattle.effect.specs.Says.{saysNumber}
 use Rattle.effect.proofs.Verdicts.{refused-alike}
-use Rattle.reader.specs.Items.{Given, itemsFrom, items}
+use Rattle.reader.specs.Items.{itemsFrom, items}
 use Rattle.reader.specs.Step.{before}
 use Rattle.writer.specs.Records.{recordsOf, Each, IsChunk, WellFormed, writeAll}
 use Rattle.writer.proofs.Theorems.{stream-written-back}
-use Rattle.accepted.specs.Sound.{malformed, sound}
+use Rattle.accepted.specs.Sound.{malformed, SoundItem}
 
 -- a chunk of which no number of 11 to 15 is said is well-formed, whatever the state
 formed-by : (o : Order) (code : ℕ) (body : List ℕ) (st : State) (v : Answer (Unit {0})) → verdict o (kindOf code) body ≡ v →
@@ -32,10 +32,6 @@ formed-by o code body st (refuses n) e h =
     let r = refused-alike o body st n (kindOf code) .1 e in
     let z : false ≡ true = rw (r .2, le-leb 11 n (r .0), le-leb n 15 (r .1)) at h in
     let q : _≡_ {A = ℕ} 0 1 = cc in absurd (omega arith)
-
--- the item is a chunk that is refused with none of 11 to 15
-abbrev pub SoundItem : Given → Type 0
-SoundItem g = sound (gives (g .item)) ≡ true
 
 -- where all items are sound, the frames are chunks and their records are well-formed
 sound-frames : (o : Order) (p : ℕ) (step : Bool) (st : State) (fs : List Frame) → Each SoundItem (itemsFrom o p step st fs) → Each IsChunk fs × Each (WellFormed o) (recordsOf fs)

@@ -62,10 +62,11 @@ use Rattle.typed.proofs.plain.text.Reads as textReads
 use Rattle.ending.proofs.Calls.{Call}
 use Rattle.accepted.specs.Writing.{Writing, Writes}
 
+-- a call of `writer::write`, which is given a type and a body
 abbrev pub RawCall : Type 0
 RawCall = Call 2 writeKinds.ps writeKinds.r writeReads.Post
 
--- a call of `writer::write`, or of one of the calls that make a record of its kind's values
+-- a raw call, or one of the calls that make a record of a kind from values
 pub data WriteCall : Type 0 where
   -- the raw call, whose arguments are values of their types, as those of every call are
   raw : (a : RawCall) → GoodsP (a .lifetimes) writeKinds.ps (a .args) → WriteCall

@@ -4,14 +4,16 @@ use mathlib.Core.Path.{_≡_, refl, ap, sym, _∙_}
 use mathlib.Core.List.{List, [], _∷_}
 use native.Mathlib.Omega.{arith}
 use lib.ListN.{length}
-use Rattle.num.specs.Answer.{Answer, gives, refuses}
+use Rattle.num.specs.Answer.{gives}
 use Rattle.num.specs.declared.Order.{Order}
+use Rattle.lay.specs.Splice.{splice}
 use Rattle.frame.specs.Frames.{chunkBytes}
-use Rattle.writer.specs.Write.{writeOf, laidBy, writtenOut, writtenSaid}
-use Rattle.writer.specs.Records.{Record, Each, Typed, thenNext, writeAll}
+use Rattle.writer.specs.Write.{writeOf, writtenOut, writtenSaid}
+use Rattle.writer.specs.Records.{Record, Each, Typed, writeAll}
 use Rattle.writer.specs.declared.Written.the-variants.{Next}
 use Rattle.writer.proofs.Theorems.{written-told}
 use Rattle.accepted.specs.Writing.{Writing, Writes, Accepted, placeAt, heldAt, WriteOn, WriteRun}
+use Rattle.accepted.proofs.Accepted.{first-next}
 
 -- the first n of some records, by their number
 unfoldable pub firstOf : ℕ → (ℕ → Record) → List Record
@@ -63,21 +65,12 @@ all-written (suc n) o d p calls r a =
     let next = a 0 (omega arith) .0 in
     let s : writtenSaid (w .result) ≡ gives next = ap writtenSaid (a 0 (omega arith) .1) in
     let q : writeOf o (w .wrote .code) (w .wrote .body) (length d) p ≡ gives next = sym (m .0) ∙ s in
-    let l : laidBy (gives next) d p (chunkBytes o (w .wrote .code) (w .wrote .body)) ≡ w .left = sym (rw q at (m .1)) in
+    let l : splice d p (chunkBytes o (w .wrote .code) (w .wrote .body)) ≡ w .left = sym (rw q at (m .1)) in
     let j : placeAt p calls 1 ≡ next = rw s in
     let i = all-written n o (w .left) (placeAt p calls 1) (rest calls) (run-rest n o d p calls r) (λ k h. a (suc k) (omega arith)) in
     rw (q, l, ← j) (i ∙ rw (held-rest d calls n, place-rest p calls n))
 
 -- ---- which calls are accepted
-
--- a run of the rules that does not end in a refusal is accepted at its first record, and goes on
-module _ (o : Order) (r : Record) (rs : List Record) (d : List ℕ) (p n : ℕ) where
-  next-by : (a : Answer ℕ) → writeOf o (r .code) (r .body) (length d) p ≡ a →
-      let d' : List ℕ = laidBy a d p (chunkBytes o (r .code) (r .body)) in
-      thenNext a d' (λ next. writeAll o rs d' next) .place ≡ gives n →
-      (next : ℕ) × (writeOf o (r .code) (r .body) (length d) p ≡ gives next) × (writeAll o rs (writtenOut o (r .code) (r .body) d p) next .place ≡ gives n)
-  next-by (gives next) e h = (next, e, rw e h)
-  next-by (refuses k) e h = let z : _≡_ {A = ℕ} 0 1 = cc in absurd (omega arith)
 
 -- the first call, and then the others
 accepted-cons : (n : ℕ) (calls : ℕ → Writing) → Accepted (calls 0) → ((k : ℕ) → k < n → Accepted (calls (suc k))) → (k : ℕ) → k < suc n → Accepted (calls k)
@@ -87,13 +80,14 @@ accepted-cons n calls a go (suc k) h = go k (omega arith)
 -- where the rules accept all records of a run, each of its calls is accepted
 pub all-accepted : (n : ℕ) (o : Order) (d : List ℕ) (p : ℕ) (calls : ℕ → Writing) (m : ℕ) → WriteRun n o d p calls → writeAll o (recordsTo n calls) d p .place ≡ gives m →
     (k : ℕ) → k < n → Accepted (calls k)
-unfolding firstOf writeAll
+unfolding firstOf
 all-accepted zero o d p calls m r e k h = absurd (omega arith)
 all-accepted (suc n) o d p calls m r e k h =
     let w = calls 0 in
     let q = met o d p w (r .writes 0 (omega arith)) (r .turns 0 (omega arith)) in
-    let b = next-by o (w .wrote) (recordsTo n (rest calls)) d p m (writeOf o (w .wrote .code) (w .wrote .body) (length d) p) refl e in
+    let b = first-next o (w .wrote) (recordsTo n (rest calls)) d p m e in
     let s : writtenSaid (w .result) ≡ gives (b .0) = q .0 ∙ b .1 in
+    let l : w .left ≡ splice d p (chunkBytes o (w .wrote .code) (w .wrote .body)) = rw (b .1) at (q .1) in
     let j : placeAt p calls 1 ≡ b .0 = rw s in
-    let go = all-accepted n o (w .left) (placeAt p calls 1) (rest calls) m (run-rest n o d p calls r) (rw (j, q .1) (b .2)) in
+    let go = all-accepted n o (w .left) (placeAt p calls 1) (rest calls) m (run-rest n o d p calls r) (rw (j, l) (b .2)) in
     accepted-cons n calls (b .0, written-told (w .result) (Next (b .0)) s) go k h

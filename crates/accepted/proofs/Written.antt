@@ -21,7 +21,7 @@ use Rattle.accepted.proofs.Accepted.{next-behind, accepted-steps}
 use Rattle.accepted.proofs.Runs.{firstOf, recordsTo, rest, run-rest, all-typed, all-written}
 
 -- only End says that no byte is left
-pub end-told : (i : declared.Item) → itemSaid i ≡ gives end → i ≡ End
+end-told : (i : declared.Item) → itemSaid i ≡ gives end → i ≡ End
 end-told PastEnd e = let z : _≡_ {A = ℕ} 0 1 = cc in absurd (omega arith)
 end-told BadState e = let z : _≡_ {A = ℕ} 0 1 = cc in absurd (omega arith)
 end-told End e = refl

@@ -30,9 +30,9 @@ use Rattle.reader.proofs.Theorems.{Fit, new-fit, step-keeps-fit, ahead, one}
 use Rattle.writer.specs.Records.{Record, recordsOf, Each, Ran, writeAll}
 use Rattle.ending.proofs.Calls.{NewCall, new-met, StepCall}
 use Rattle.ending.proofs.Runs.{Run, run-is-step}
-use Rattle.accepted.specs.Sound.{sound, recordIn}
-use Rattle.accepted.specs.Writing.{Writing, Accepted, placeAt, heldAt, WriteRun, bytesWritten}
-use Rattle.accepted.proofs.Back.{SoundItem, sound-written-back}
+use Rattle.accepted.specs.Sound.{sound, SoundItem, recordIn}
+use Rattle.accepted.specs.Writing.{Writing, placeAt, heldAt, WriteRun, WroteStream}
+use Rattle.accepted.proofs.Back.{sound-written-back}
 use Rattle.accepted.proofs.Runs.{firstOf, recordsTo, all-written, all-accepted}
 
 -- ---- a step that gives a sound chunk, and one that gives End
@@ -110,39 +110,40 @@ module _ (o : Order) (s : List ℕ) where
 
 -- ---- a stream that is read from a new cursor to its end, and written
 
--- The bytes of the stream are bytes, as the elements of every slice of u8 are. The first n steps give chunks that are refused with none of
--- 11 to 15, and the next gives End. Each chunk's type and body, as step and body_of give them, are written in turn, from place 0 of a slice
--- with room for the stream on.
-module _ (o : Order) (s : List ℕ) (g : Bytes s) (start : NewCall) (n : ℕ) (calls : ℕ → StepCall) (r : Run (suc n) o s (start .result) calls)
-    (all : (k : ℕ) → k < n → sound (itemSaid (calls k .result .item)) ≡ true) (last : calls n .result .item ≡ Item.End)
-    (d : List ℕ) (f : length s ≤ length d) (writes : ℕ → Writing) (w : WriteRun n o d 0 writes)
-    (same : (k : ℕ) → k < n → writes k .wrote ≡ recordIn s (itemSaid (calls k .result .item))) where
+-- n steps from a new cursor, each of which gives a chunk that is refused with none of 11 to 15, and then one that gives End
+pub record ReadSound (o : Order) (s : List ℕ) (n : ℕ) (start : NewCall) (calls : ℕ → StepCall) : Type 0 where
+  pub run : Run (suc n) o s (start .result) calls
+  pub chunks : (k : ℕ) → k < n → sound (itemSaid (calls k .result .item)) ≡ true
+  pub last : calls n .result .item ≡ Item.End
+
+-- the record that each call is to write is that of the chunk that the step of its number gave
+abbrev pub WritesRead : ℕ → List ℕ → (ℕ → StepCall) → (ℕ → Writing) → Type 0
+WritesRead n s calls writes = (k : ℕ) → k < n → writes k .wrote ≡ recordIn s (itemSaid (calls k .result .item))
+
+module _ (o : Order) (s : List ℕ) (n : ℕ) (start : NewCall) (calls : ℕ → StepCall) (r : ReadSound o s n start calls) where
   step-is : (k : ℕ) → k < suc n → itemSaid (calls k .result .item) ≡ stepOf o s (after k o s newCursor) .item
-  step-is k h = run-is-step (suc n) o s newCursor calls (rw (new-met start) at r) k h .item
+  step-is k h = run-is-step (suc n) o s newCursor calls (rw (new-met start) at (r .run)) k h .item
 
-  ahead-sound : Each SoundItem (items o s) × (recordsOf (frames o s) ≡ firstOf n (given o s newCursor))
-  ahead-sound = sound-on o s n newCursor (omega arith) new-fit (λ k h. rw (← step-is k (omega arith)) (all k h)) (sym (step-is n (omega arith)) ∙ ap itemSaid last)
+  all-sound : Each SoundItem (items o s) × (recordsOf (frames o s) ≡ firstOf n (given o s newCursor))
+  all-sound =
+      sound-on o s n newCursor (omega arith) new-fit (λ k h. rw (← step-is k (omega arith)) (r .chunks k h))
+      (sym (step-is n (omega arith)) ∙ ap itemSaid (r .last))
 
-  back : writeAll o (recordsTo n writes) d 0 ≡ record { slice = splice d 0 s; place = gives (length s) }
-  back =
-      let q : recordsTo n writes ≡ recordsOf (frames o s) = first-same n (λ k. writes k .wrote) (given o s newCursor) (λ k h. same k h ∙ ap (recordIn s) (step-is k (omega arith))) ∙ sym (ahead-sound .1) in
-      rw q (sound-written-back o s d g (ahead-sound .0) f)
+  module _ (g : Bytes s) (d : List ℕ) (f : length s ≤ length d) (writes : ℕ → Writing) (w : WriteRun n o d 0 writes) (same : WritesRead n s calls writes) where
+    back : writeAll o (recordsTo n writes) d 0 ≡ record { slice = splice d 0 s; place = gives (length s) }
+    back =
+        let e = first-same n (λ k. writes k .wrote) (given o s newCursor) (λ k h. same k h ∙ ap (recordIn s) (step-is k (omega arith))) in
+        let q : recordsTo n writes ≡ recordsOf (frames o s) = e ∙ sym (all-sound .1) in
+        rw q (sound-written-back o s d g (all-sound .0) f)
 
-  -- Then every write is accepted,
-  pub read-accepted : (k : ℕ) → k < n → Accepted (writes k)
-  read-accepted = all-accepted n o d 0 writes (length s) w (ap (λ (x : Ran). x .place) back)
-
-  ran : _≡_ {A = Ran} (record { slice = heldAt d writes n; place = gives (placeAt 0 writes n) }) (record { slice = splice d 0 s; place = gives (length s) })
-  ran = sym (all-written n o d 0 writes w read-accepted) ∙ back
-
-  -- the last place is behind the stream,
-  pub read-place : placeAt 0 writes n ≡ length s
-  read-place = let q : _≡_ {A = Answer ℕ} (gives (placeAt 0 writes n)) (gives (length s)) = ap (λ (x : Ran). x .place) ran in cc
-
-  -- the slice holds the stream and then what stood there,
-  pub read-slice : heldAt d writes n ≡ splice d 0 s
-  read-slice = ap (λ (x : Ran). x .slice) ran
-
-  -- and the bytes that were written are the stream.
-  pub read-bytes : bytesWritten n d writes ≡ s
-  read-bytes = rw (read-place, read-slice) (take-at s (drop (0 + length s) d) (length s) refl)
+    -- Where the steps over a stream give chunks that are refused with none of 11 to 15, and then End, calls that write each chunk's type and
+    -- body, as step and body_of give them, in turn from place 0 on of a slice with room for the stream, are all accepted and write the stream.
+    -- That the stream's elements are bytes is so of every slice of u8.
+    pub read-written-back : WroteStream n d s writes
+    read-written-back =
+        let a = all-accepted n o d 0 writes (length s) w (ap (λ (x : Ran). x .place) back) in
+        let t = sym (all-written n o d 0 writes w a) ∙ back in
+        let q : _≡_ {A = Answer ℕ} (gives (placeAt 0 writes n)) (gives (length s)) = ap (λ (x : Ran). x .place) t in
+        let p : placeAt 0 writes n ≡ length s = cc in
+        let l : heldAt d writes n ≡ splice d 0 s = ap (λ (x : Ran). x .slice) t in
+        record { accepted = a; place = p; slice = l; bytes = rw (p, l) (take-at s (drop (0 + length s) d) (length s) refl) }

@@ -5,6 +5,7 @@ use mathlib.Core.List.{List}
 use lib.ListN.{length, take}
 use Rattle.num.specs.Answer.{Answer, gives, refuses}
 use Rattle.num.specs.declared.Order.{Order}
+use Rattle.lay.specs.Splice.{splice}
 use Rattle.writer.specs.Records.{Record, Typed}
 use Rattle.writer.specs.Write.{writeOf, writtenOut, writtenSaid}
 use Rattle.writer.specs.declared.Written.{Written}
@@ -21,7 +22,8 @@ pub record Writing : Type 0 where
 
 -- the answer and the slice are those of the rules for this record at this place, and its type is a number of 32 bits
 pub record Writes (w : Writing) : Type 0 where
-  pub said : writtenSaid (w .result) ≡ writeOf (w .order) (w .wrote .code) (w .wrote .body) (length (w .out)) (w .place)
+  pub said :
+      writtenSaid (w .result) ≡ writeOf (w .order) (w .wrote .code) (w .wrote .body) (length (w .out)) (w .place)
   pub left : w .left ≡ writtenOut (w .order) (w .wrote .code) (w .wrote .body) (w .out) (w .place)
   pub typed : Typed (w .wrote)
 
@@ -64,3 +66,11 @@ pub record WriteRun (n : ℕ) (o : Order) (d : List ℕ) (p : ℕ) (calls : ℕ 
 -- the bytes that n calls from place 0 on wrote
 abbrev pub bytesWritten : ℕ → List ℕ → (ℕ → Writing) → List ℕ
 bytesWritten n d calls = take (placeAt 0 calls n) (heldAt d calls n)
+
+-- n calls from place 0 on wrote the stream s: each was accepted, the last place is behind it, and the slice holds it
+-- and then what stood there
+pub record WroteStream (n : ℕ) (d s : List ℕ) (calls : ℕ → Writing) : Type 0 where
+  pub accepted : (k : ℕ) → k < n → Accepted (calls k)
+  pub place : placeAt 0 calls n ≡ length s
+  pub slice : heldAt d calls n ≡ splice d 0 s
+  pub bytes : bytesWritten n d calls ≡ s
