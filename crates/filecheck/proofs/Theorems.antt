@@ -1,26 +1,25 @@
--- What the rules say of files: the answer's cases are told apart, a good file is counted whole, and small files.
-use Prim.Native.Nat.{ℕ, _+_}
+-- What the rules say of files: the answer's cases are told apart, each is given exactly where it is due, and small files.
+use Prim.Native.Nat.{ℕ}
 use mathlib.Core.Path.{_≡_, refl, ap, sym, _∙_}
-use mathlib.Core.Bool.{Bool, true, false}
 use mathlib.Core.List.{List, [], _∷_, _++_, map}
-use native.Mathlib.Omega.{arith}
+use mathlib.Core.Logic.{_↔_}
 use lib.Dec.{eqb}
 use lib.ListN.{length}
-use Rattle.num.specs.Answer.{Answer, gives, refuses}
 use Rattle.num.specs.Choice.{pick}
 use Rattle.num.specs.declared.Order.{Order}
 use Rattle.num.specs.declared.Order.the-variants.{Big}
 use Rattle.frame.specs.Place.{starts, shows, gap}
-use Rattle.frame.specs.Frames.{Frame, chunkBytes, framesBy, frames}
-use Rattle.frame.proofs.Looks.{of-chunk}
+use Rattle.frame.specs.Frames.{chunkBytes, framesBy, frames}
 use Rattle.body.specs.Kind.{known, kindIn, kindOf}
 use Rattle.body.specs.Table.{shaped}
 use Rattle.body.specs.Verdict.{verdict}
 use Rattle.reader.specs.Items.{items}
-use Rattle.reader.proofs.Theorems.{items-length}
-use Rattle.filecheck.specs.File.{FileAnswer, good, refused, fileSaid, partOf, wellFormed, begins, passes, thenRest, fileFrom, fileBy, fileOf}
+use Rattle.filecheck.specs.File.{FileAnswer, good, refused, fileSaid, partOf, fileFrom, fileOf}
+use Rattle.filecheck.specs.Due.{Begins, GoodFile, FirstWrong, Due}
 use Rattle.filecheck.specs.declared.FileChecked.{FileChecked}
 use Rattle.filecheck.specs.declared.FileChecked.the-variants.{Good, NoHeader, HeaderNotEnded, SecondHeader, NotAChunk}
+use Rattle.filecheck.proofs.Exactly.{file-exactly}
+use Rattle.filecheck.proofs.check.Reads as check
 
 -- ---- the answer's cases say different things, so the promise fixes the case
 
@@ -44,46 +43,53 @@ case-back (NotAChunk place) = refl
 pub file-told : (a b : FileChecked) → fileSaid a ≡ fileSaid b → a ≡ b
 file-told a b e = sym (case-back a) ∙ ap caseOf e ∙ case-back b
 
--- ---- the number of a good file is that of its items
+-- ---- a good file
 
-onward-good : (place m : ℕ) (a : Answer Bool) (f : Bool → FileAnswer) (n : ℕ) → ((next : Bool) → f next ≡ good m → m ≡ n) → thenRest place a f ≡ good m → m ≡ n
-onward-good place m (gives next) f n h e = h next e
-onward-good place m (refuses k) f n h e = let z : _≡_ {A = ℕ} 0 1 = cc in absurd (omega arith)
+module _ (o : Order) (s : List ℕ) where
+  -- the number of a good file is that of its items
+  pub good-counts : (m : ℕ) → fileOf o s ≡ good m → m ≡ length (items o s)
+  good-counts m e = file-exactly o s (good m) .0 e .1
 
-end-good : (ended : Bool) (n place m : ℕ) → pick ended (good n) (refused 42 place) ≡ good m → m ≡ n
-end-good true n place m e = cc
-end-good false n place m e = let z : _≡_ {A = ℕ} 0 1 = cc in absurd (omega arith)
+  -- A file is answered so exactly where it begins with a well-formed SOFH, has only chunks and no second SOFH, and has a well-formed EOFH
+  -- before each data chunk and before the end.
+  pub file-good : fileOf o s ≡ good (length (items o s)) ↔ GoodFile o (frames o s)
+  file-good = let x = file-exactly o s (good (length (items o s))) in (λ e. x .0 e .0, λ h. x .1 (h, refl))
 
-from-good : (o : Order) (n place : ℕ) (ended : Bool) (fs : List Frame) (m : ℕ) → fileFrom o n place ended fs ≡ good m → m ≡ n + length fs
-unfolding fileFrom
-from-good o n place ended [] m e = omega (arith, end-good ended n place m e)
-from-good o n place ended (f ∷ rest) m e =
-    of-chunk (λ (x : FileAnswer). x ≡ good m → m ≡ n + length (f ∷ rest)) (refused 44 place)
-    (λ code body. thenRest place (passes (partOf (kindOf code)) ended (wellFormed o code body)) (λ next. fileFrom o (n + 1) (place + 12 + length body) next rest))
-    f
-    (λ q. let z : _≡_ {A = ℕ} 0 1 = cc in absurd (omega arith))
-    (λ code body. onward-good place m (passes (partOf (kindOf code)) ended (wellFormed o code body))
-    (λ (next : Bool). fileFrom o (n + 1) (place + 12 + length body) next rest)
-    (n + length (f ∷ rest))
-    (λ next g. omega (arith, from-good o (n + 1) (place + 12 + length body) next rest m g)))
-    e
+-- ---- calls of check
 
-begun-good : (o : Order) (b : Bool) (place : ℕ) (rest : List Frame) (m : ℕ) → pick b (fileFrom o 1 place false rest) (refused 41 0) ≡ good m → m ≡ 1 + length rest
-begun-good o true place rest m e = from-good o 1 place false rest m e
-begun-good o false place rest m e = let z : _≡_ {A = ℕ} 0 1 = cc in absurd (omega arith)
+-- of any call that meets the promise of check, by its arguments, its result and what it leaves
+module _ (κs : _) (a : _) (r : FileChecked) (last : _) (met : check.Post κs a r last) where
+  abbrev order : Order
+  order = a .0
 
-by-good : (o : Order) (fs : List Frame) (m : ℕ) → fileBy o fs ≡ good m → m ≡ length fs
-by-good o [] m e = let z : _≡_ {A = ℕ} 0 1 = cc in absurd (omega arith)
-by-good o (f ∷ rest) m e =
-    of-chunk (λ (x : FileAnswer). x ≡ good m → m ≡ length (f ∷ rest)) (refused 41 0)
-    (λ code body. pick (begins (partOf (kindOf code)) (wellFormed o code body)) (fileFrom o 1 (12 + length body) false rest) (refused 41 0))
-    f
-    (λ q. let z : _≡_ {A = ℕ} 0 1 = cc in absurd (omega arith))
-    (λ code body q. omega (arith, begun-good o (begins (partOf (kindOf code)) (wellFormed o code body)) (12 + length body) rest m q))
-    e
+  abbrev bytes : List ℕ
+  bytes = a .1 .0 .now
 
-pub good-counts : (o : Order) (s : List ℕ) (m : ℕ) → fileOf o s ≡ good m → m ≡ length (items o s)
-good-counts o s m e = by-good o (frames o s) m e ∙ sym (items-length o 0 false _ (frames o s))
+  -- It answers each case exactly where what the case says is due.
+  pub check-exactly : (c : FileChecked) → r ≡ c ↔ Due order bytes (fileSaid c)
+  check-exactly c =
+      let x = file-exactly order bytes (fileSaid c) in
+      (λ e. x .0 (sym met ∙ ap fileSaid e), λ h. file-told r c (met ∙ x .1 h))
+
+  -- Good exactly where the file is good, with the number of its items;
+  pub good-exactly : (n : ℕ) → r ≡ Good n ↔ GoodFile order (frames order bytes) × (n ≡ length (items order bytes))
+  good-exactly n = check-exactly (Good n)
+
+  -- NoHeader exactly where it does not begin with a well-formed SOFH, an empty file too;
+  pub no-header-exactly : r ≡ NoHeader ↔ (Begins order (frames order bytes) → ⊥)
+  no-header-exactly = let x = check-exactly NoHeader in (λ e. x .0 e .0, λ h. x .1 (h, refl))
+
+  -- else HeaderNotEnded exactly where the first thing wrong is data, or the end, with no well-formed EOFH before it;
+  pub not-ended-exactly : (p : ℕ) → r ≡ HeaderNotEnded p ↔ Begins order (frames order bytes) × FirstWrong order (frames order bytes) 42 p
+  not-ended-exactly p = check-exactly (HeaderNotEnded p)
+
+  -- SecondHeader exactly where it is a second SOFH;
+  pub second-exactly : (p : ℕ) → r ≡ SecondHeader p ↔ Begins order (frames order bytes) × FirstWrong order (frames order bytes) 43 p
+  second-exactly p = check-exactly (SecondHeader p)
+
+  -- and NotAChunk exactly where it is a frame that is no chunk.
+  pub not-a-chunk-exactly : (p : ℕ) → r ≡ NotAChunk p ↔ Begins order (frames order bytes) × FirstWrong order (frames order bytes) 44 p
+  not-a-chunk-exactly p = check-exactly (NotAChunk p)
 
 -- ---- small files, in big order
 
