@@ -1,5 +1,5 @@
 -- The check of a file says what is due: one frame after the other passes, up to the first that is wrong or to the end.
-use Prim.Native.Nat.{ℕ, zero, suc, _+_, _-_, _≤_, _<_}
+use Prim.Native.Nat.{ℕ, zero, suc, _+_, _<_}
 use mathlib.Core.Path.{_≡_, refl, ap, subst, sym, _∙_}
 use mathlib.Core.Bool.{Bool, true, false, false≢true}
 use mathlib.Core.List.{List, [], _∷_}
@@ -11,16 +11,15 @@ use lib.Dec.{eqb}
 use lib.ListN.{length, take, drop}
 use lib.Seq.{drop-drop}
 use borrow.Author.Tests.{eqb-true, eqb-false}
-use Rattle.num.specs.Answer.{Answer, gives, refuses}
+use Rattle.num.specs.Answer.{Answer}
 use Rattle.num.specs.Choice.{pick}
 use Rattle.num.specs.declared.Order.{Order}
 use Rattle.frame.specs.Frames.{Frame, width, frames}
 use Rattle.frame.proofs.Theorems.{covered}
 use Rattle.body.specs.declared.kinds.Kind.the-variants.{SOFH, EOFH}
-use Rattle.reader.specs.Items.{items}
 use Rattle.reader.proofs.Theorems.{items-length}
-use Rattle.filecheck.specs.File.{FileAnswer, good, refused, thenRest, fileFrom, fileBy, fileOf}
-use Rattle.filecheck.specs.Due.{OfKind, WellFormed, IsData, NoChunk, First, Stands, Begins, HeaderEnded, DataOrEnd, GoodFile, Wrong, FirstWrong, Due}
+use Rattle.filecheck.specs.File.{good, refused, thenRest, fileFrom, fileBy, fileOf}
+use Rattle.filecheck.specs.Due.{OfKind, WellFormed, IsData, NoChunk, First, Stands, Begins, HeaderEnded, DataOrEnd, Wrong, FirstWrong, Due}
 use Rattle.filecheck.proofs.Passed.{Passed, turn-first, turned, headed}
 
 -- ---- what is wrong, by its number
@@ -41,6 +40,7 @@ pub record Right (o : Order) (fs : List Frame) (k : ℕ) : Type 0 where
   pub single : 0 < k → Stands (OfKind SOFH) fs k → ⊥
   pub chunk : Stands NoChunk fs k → ⊥
 
+-- so no number is that of something wrong there
 pub right-not : (o : Order) (fs : List Frame) (k n : ℕ) → Right o fs k → Wrong o fs n k → ⊥
 right-not o fs k n r = by-number (λ (m : ℕ). ⊥) n (λ h. h .1 (r .ended (h .0))) (λ h. r .single (h .0) (h .1)) (r .chunk)
 
@@ -54,12 +54,14 @@ upto-by P k j false e below here l = let n = eqb-false j k e in below j (omega a
 upto : (P : ℕ → Type 0) (k j : ℕ) → ((i : ℕ) → i < k → P i) → P k → j < k + 1 → P j
 upto P k j = upto-by P k j (eqb j k) refl
 
+-- a frame that stands in the file has a number below that of the end
 stands-below : (P : Frame → Type 0) (fs : List Frame) (k : ℕ) → Stands P fs k → k < length fs
 stands-below P [] zero h = absurd h
 stands-below P [] (suc k) h = absurd h
 stands-below P (f ∷ fs) zero h = omega arith
 stands-below P (f ∷ fs) (suc k) h = omega (arith, stands-below P fs k h)
 
+-- the next frame begins where this one ends
 next-place : (k : ℕ) (fs : List Frame) (f : Frame) (rest : List Frame) → drop k fs ≡ f ∷ rest → covered (take (suc k) fs) ≡ covered (take k fs) + width f
 next-place zero fs f rest e = rw e (omega arith)
 next-place (suc k) [] f rest e = let z : _≡_ {A = ℕ} 0 1 = cc in absurd (omega arith)
@@ -74,6 +76,7 @@ record Reached (o : Order) (fs : List Frame) (k : ℕ) (e : Bool) (rest : List F
   ended : e ≡ true ↔ HeaderEnded o fs k
   right : (j : ℕ) → j < k → Right o fs j
 
+-- at the first frame, and at the one after a frame that passed
 start : (o : Order) (fs rest : List Frame) → fs ≡ rest → Reached o fs 0 false rest
 start o fs rest e = record {
   ahead = e;
@@ -103,7 +106,10 @@ end-first : (o : Order) (n place : ℕ) (ended : Bool) → fileFrom o n place en
 unfolding fileFrom
 end-first o n place ended = refl
 
+-- ---- so what is said is due
+
 module _ (o : Order) (s : List ℕ) where
+  -- what is wrong where the check has come to is the first thing wrong
   wrong-first : (k : ℕ) (e : Bool) (rest : List Frame) (n : ℕ) → Reached o (frames o s) k e rest → Wrong o (frames o s) n k → FirstWrong o (frames o s) n (covered (take k (frames o s)))
   wrong-first k e rest n r w = record { at = k; wrong = w; first = λ m j l h. right-not o (frames o s) j m (r .right j l) h; place = refl }
 

@@ -1,5 +1,5 @@
 -- One answer is due, so the check of a file gives each answer exactly where it is due.
-use Prim.Native.Nat.{ℕ, zero, suc, _+_, _-_, _≤_, _<_}
+use Prim.Native.Nat.{ℕ, zero, suc, _-_, _≤_}
 use mathlib.Core.Path.{_≡_, refl, ap, subst, sym, _∙_}
 use mathlib.Core.Bool.{Bool, true, false}
 use mathlib.Core.List.{List, [], _∷_}
@@ -9,53 +9,54 @@ use lib.Dec.{eqb, ltb}
 use lib.ListN.{length, take, drop, length-drop, drop-of-length-le}
 use lib.Seq.{take-length}
 use borrow.Author.Tests.{eqb-true, ltb-true, ltb-false}
+use Rattle.num.specs.Answer.{refuses, refusal}
 use Rattle.num.specs.Choice.{pick}
 use Rattle.num.specs.declared.Order.{Order}
-use Rattle.frame.specs.Frames.{Frame, ofChunk, width, first, framesBy, frames}
+use Rattle.frame.specs.Frames.{Frame, chunk, ofChunk, width, first, framesBy, frames}
 use Rattle.frame.proofs.Looks.{frame-by, other-made}
 use Rattle.frame.proofs.Frames.{first-takes}
 use Rattle.frame.proofs.Theorems.{covered}
 use Rattle.body.specs.Kind.{kindOf}
 use Rattle.body.specs.declared.kinds.Kind.the-variants.{SOFH}
-use Rattle.filecheck.specs.File.{FileAnswer, good, refused, partOf, fileOf}
+use Rattle.filecheck.specs.File.{FileAnswer, good, refused, partOf, wellFormed, passes, fileOf}
 use Rattle.filecheck.specs.Due.{OfKind, IsData, NoChunk, First, Stands, Begins, GoodFile, Wrong, FirstWrong, Due}
 use Rattle.filecheck.specs.declared.Part.{Part}
-use Rattle.filecheck.specs.declared.Part.the-variants.{Data, Header, HeaderEnd, Other}
+use Rattle.filecheck.specs.declared.Part.the-variants.{Data, Header}
 use Rattle.filecheck.proofs.Parts.{is-sofh, is-data}
-use Rattle.filecheck.proofs.Due.{by-number, Right, right-not, due}
+use Rattle.filecheck.proofs.Passed.{turnOf}
+use Rattle.filecheck.proofs.Due.{by-number, right-not, due}
 
 -- ---- one thing is wrong at a number
 
--- the number of the refusal that a frame, or the end, can have there; 0 is that of none
-abbrev refusalBy : Part → ℕ
-refusalBy Data = 42
-refusalBy Header = 43
-refusalBy HeaderEnd = 0
-refusalBy Other = 0
+module _ (o : Order) where
+  -- the number of the refusal of a frame while the header is not ended, and of the end; 0 is that of none
+  abbrev refusalOf : Frame → ℕ
+  refusalOf f = refusal (turnOf o false f)
 
-abbrev refusalOf : Frame → ℕ
-refusalOf f = ofChunk 44 (λ code body. refusalBy (partOf (kindOf code))) f
+  abbrev refusalAt : List Frame → ℕ
+  refusalAt [] = 42
+  refusalAt (f ∷ rest) = refusalOf f
 
-abbrev refusalAt : List Frame → ℕ
-refusalAt [] = 42
-refusalAt (f ∷ rest) = refusalOf f
+  -- of a chunk, by its part
+  by-part : (code : ℕ) (body : List ℕ) (p : Part) → partOf (kindOf code) ≡ p → refusalOf (chunk code body) ≡ refusal (passes p false (wellFormed o code body))
+  by-part code body p e = ap (λ (q : Part). refusal (passes q false (wellFormed o code body))) e
 
--- what is said of chunks alone is said of no other frame
-only-chunks : (said : ℕ → List ℕ → Type 0) (n : ℕ) → ((code : ℕ) (body : List ℕ) → said code body → refusalBy (partOf (kindOf code)) ≡ n) →
-    (f : Frame) → ofChunk ⊥ said f → refusalOf f ≡ n
-only-chunks said n h = frame-by (λ (f : Frame). ofChunk ⊥ said f → refusalOf f ≡ n) h (λ f e i. absurd (subst (λ (t : Type 0). t) (other-made ⊥ said f e) i))
+  -- what is said of chunks alone is said of no other frame
+  only-chunks : (said : ℕ → List ℕ → Type 0) (n : ℕ) → ((code : ℕ) (body : List ℕ) → said code body → refusalOf (chunk code body) ≡ n) →
+      (f : Frame) → ofChunk ⊥ said f → refusalOf f ≡ n
+  only-chunks said n h = frame-by (λ (f : Frame). ofChunk ⊥ said f → refusalOf f ≡ n) h (λ f e i. absurd (subst (λ (t : Type 0). t) (other-made ⊥ said f e) i))
 
-at-first : (P : Frame → Type 0) (n : ℕ) → ((f : Frame) → P f → refusalOf f ≡ n) → (l : List Frame) → First P l → refusalAt l ≡ n
-at-first P n h [] i = absurd i
-at-first P n h (f ∷ rest) i = h f i
+  at-first : (P : Frame → Type 0) (n : ℕ) → ((f : Frame) → P f → refusalOf f ≡ n) → (l : List Frame) → First P l → refusalAt l ≡ n
+  at-first P n h [] i = absurd i
+  at-first P n h (f ∷ rest) i = h f i
 
-wrong-told : (o : Order) (fs : List Frame) (k n : ℕ) → Wrong o fs n k → refusalAt (drop k fs) ≡ n
-wrong-told o fs k n =
-    by-number (λ (m : ℕ). refusalAt (drop k fs) ≡ m) n
-    (λ h. ⊎-elim (at-first IsData 42 (only-chunks _ 42 (λ code body i. ap refusalBy (is-data (kindOf code) i))) (drop k fs))
-    (λ e. ap refusalAt (drop-of-length-le fs {i = k} (omega (arith, e)))) (h .0))
-    (λ h. at-first (OfKind SOFH) 43 (only-chunks _ 43 (λ code body i. ap refusalBy (is-sofh (kindOf code) i))) (drop k fs) (h .1))
-    (at-first NoChunk 44 (λ f e. other-made 44 _ f e) (drop k fs))
+  wrong-told : (fs : List Frame) (k n : ℕ) → Wrong o fs n k → refusalAt (drop k fs) ≡ n
+  wrong-told fs k n =
+      by-number (λ (m : ℕ). refusalAt (drop k fs) ≡ m) n
+      (λ h. ⊎-elim (at-first IsData 42 (only-chunks _ 42 (λ code body i. by-part code body Data (is-data (kindOf code) i))) (drop k fs))
+      (λ e. ap refusalAt (drop-of-length-le fs {i = k} (omega (arith, e)))) (h .0))
+      (λ h. at-first (OfKind SOFH) 43 (only-chunks _ 43 (λ code body i. by-part code body Header (is-sofh (kindOf code) i))) (drop k fs) (h .1))
+      (at-first NoChunk 44 (λ f e. ap refusal (other-made (refuses 44) _ f e)) (drop k fs))
 
 -- ---- one answer is due
 
@@ -67,7 +68,7 @@ module _ (o : Order) (fs : List Frame) where
   one-first : (n p m q : ℕ) → FirstWrong o fs n p → FirstWrong o fs m q → refused n p ≡ refused m q
   one-first n p m q x y =
       let i : x .at ≡ y .at = omega (arith, no-later n p m q x y (ltb (y .at) (x .at)) refl, no-later m q n p y x (ltb (x .at) (y .at)) refl) in
-      let j : n ≡ m = sym (wrong-told o fs (x .at) n (x .wrong)) ∙ ap (λ (k : ℕ). refusalAt (drop k fs)) i ∙ wrong-told o fs (y .at) m (y .wrong) in
+      let j : n ≡ m = sym (wrong-told o fs (x .at) n (x .wrong)) ∙ ap (λ (k : ℕ). refusalAt o (drop k fs)) i ∙ wrong-told o fs (y .at) m (y .wrong) in
       let k : p ≡ q = sym (x .place) ∙ ap (λ (k : ℕ). covered (take k fs)) i ∙ y .place in
       rw (j, k)
 

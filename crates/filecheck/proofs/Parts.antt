@@ -5,6 +5,7 @@ use mathlib.Core.Bool.{Bool, true, false}
 use mathlib.Core.List.{List, [], _∷_}
 use mathlib.Core.Logic.{_⊎_, inl, inr}
 use native.Mathlib.Omega.{arith}
+use denote.Enum.Declared.{tagOf}
 use lib.Dec.{eqb}
 use borrow.Author.Tests.{eqb-true}
 use Rattle.num.specs.Choice.{pick}
@@ -18,6 +19,7 @@ use Rattle.body.specs.declared.sampled.Shaped.the-variants.{Samples, NoSamples}
 use Rattle.filecheck.specs.File.{partBy, partOf}
 use Rattle.filecheck.specs.declared.Part.{Part}
 use Rattle.filecheck.specs.declared.Part.the-variants.{Data, Header, HeaderEnd, Other}
+use Rattle.filecheck.proofs.Part as Part
 
 -- ---- the kind of a type
 
@@ -71,16 +73,10 @@ module _ (n : ℕ) where
   unfolding partOf
   says = says-by (shaped (kindOf n)) (eqb (codeOf (kindOf n)) (codeOf SOFH)) (eqb (codeOf (kindOf n)) (codeOf EOFH)) refl refl refl
 
--- parts are told apart by their numbers
-abbrev pub partNumber : Part → ℕ
-partNumber Data = 0
-partNumber Header = 1
-partNumber HeaderEnd = 2
-partNumber Other = 3
-
 module _ (k : Kind) where
-  pub apart : (p q : Part) → partOf k ≡ p → partOf k ≡ q → partNumber p ≡ partNumber q
-  apart p q e i = ap partNumber (sym e ∙ i)
+  -- two parts of a kind are one, so they have one number
+  pub apart : (p q : Part) → partOf k ≡ p → partOf k ≡ q → tagOf Part.the-type p ≡ tagOf Part.the-type q
+  apart p q e i = ap (tagOf Part.the-type) (sym e ∙ i)
 
   pub is-sofh : k ≡ SOFH → partOf k ≡ Header
   unfolding partOf shaped

@@ -2,9 +2,10 @@
 use Prim.Native.Nat.{ℕ, _+_, _<_}
 use mathlib.Core.Path.{_≡_, refl, ap, subst, sym, _∙_}
 use mathlib.Core.Bool.{Bool, true, false, false≢true}
-use mathlib.Core.List.{List, [], _∷_}
+use mathlib.Core.List.{List, _∷_}
 use mathlib.Core.Logic.{_↔_, _⊎_, inl, inr, ⊎-elim}
 use native.Mathlib.Omega.{arith}
+use denote.Enum.Declared.{tagOf}
 use lib.ListN.{length}
 use Rattle.num.specs.Answer.{Answer, gives, refuses}
 use Rattle.num.specs.Choice.{pick, either}
@@ -17,12 +18,14 @@ use Rattle.filecheck.specs.File.{FileAnswer, refused, partOf, wellFormed
 use Rattle.filecheck.specs.Due.{OfKind, WellFormed, IsData, NoChunk}
 use Rattle.filecheck.specs.declared.Part.{Part}
 use Rattle.filecheck.specs.declared.Part.the-variants.{Data, Header, HeaderEnd, Other}
-use Rattle.filecheck.proofs.Parts.{Says, says, partNumber, apart, is-sofh, is-eofh, is-data}
+use Rattle.filecheck.proofs.Part as Part
+use Rattle.filecheck.proofs.Parts.{Says, says, apart, is-sofh, is-eofh, is-data}
 
 -- what the check makes of a frame after the first: whether the header is ended after it, or the number of a refusal
 abbrev pub turnOf : Order → Bool → Frame → Answer Bool
 turnOf o ended f = ofChunk (refuses 44) (λ code body. passes (partOf (kindOf code)) ended (wellFormed o code body)) f
 
+-- the check of some frames, by what it makes of the first of them
 pub turn-first : (o : Order) (n place : ℕ) (ended : Bool) (f : Frame) (rest : List Frame) →
     fileFrom o n place ended (f ∷ rest) ≡ thenRest place (turnOf o ended f) (λ next. fileFrom o (n + 1) (place + width f) next rest)
 unfolding fileFrom
@@ -39,12 +42,14 @@ pub record Passed (o : Order) (k : ℕ) (ended : Bool) (f : Frame) (next : Bool)
   pub late : IsData f → ended ≡ true
   pub after : next ≡ true ↔ (ended ≡ true) ⊎ WellFormed o EOFH f
 
+-- one of two tests holds, where it is known what the second one stands for
 either-true : {A : Type 0} (a b : Bool) → A → either a b ≡ true ↔ (a ≡ true) ⊎ (A × (b ≡ true))
 either-true true b x = (λ h. inl refl, λ h. refl)
 either-true false b x = (λ h. inr (x, h), ⊎-elim (λ h. absurd (false≢true h)) (λ h. h .1))
 
+-- the part of a chunk, by its number: 0 is data, 1 a header, 2 a header's end
 module _ (o : Order) (code : ℕ) (body : List ℕ) where
-  passed : (k : ℕ) (p : Part) (ended next : Bool) → partOf (kindOf code) ≡ p → (partNumber p ≡ 1 → 0 < k → ⊥) → (partNumber p ≡ 0 → ended ≡ true) →
+  passed : (k : ℕ) (p : Part) (ended next : Bool) → partOf (kindOf code) ≡ p → (tagOf Part.the-type p ≡ 1 → 0 < k → ⊥) → (tagOf Part.the-type p ≡ 0 → ended ≡ true) →
       (next ≡ true ↔ (ended ≡ true) ⊎ WellFormed o EOFH (chunk code body)) → Passed o k ended (chunk code body) next
   passed k p ended next e h d a = record {
     chunk = λ i. false≢true (sym i);
@@ -54,7 +59,7 @@ module _ (o : Order) (code : ℕ) (body : List ℕ) where
   }
 
   -- a chunk that is no header's end leaves it as it was
-  as-before : (p : Part) (ended : Bool) → partOf (kindOf code) ≡ p → (partNumber p ≡ 2 → ⊥) → ended ≡ true ↔ (ended ≡ true) ⊎ WellFormed o EOFH (chunk code body)
+  as-before : (p : Part) (ended : Bool) → partOf (kindOf code) ≡ p → (tagOf Part.the-type p ≡ 2 → ⊥) → ended ≡ true ↔ (ended ≡ true) ⊎ WellFormed o EOFH (chunk code body)
   as-before p ended e h = (λ i. inl i, ⊎-elim (λ i. i) (λ i. absurd (h (apart (kindOf code) p HeaderEnd e (is-eofh (kindOf code) (i .0))))))
 
   -- a chunk after the first, by its part
@@ -71,7 +76,7 @@ module _ (o : Order) (code : ℕ) (body : List ℕ) where
   chunk-turned k X Other ended e i pass early second =
       pass ended (passed k Other ended ended e (λ h. absurd (omega arith)) (λ h. absurd (omega arith)) (as-before Other ended e (λ h. omega arith)))
 
-  no-header : (p : Part) → partOf (kindOf code) ≡ p → (partNumber p ≡ 1 → ⊥) → WellFormed o SOFH (chunk code body) → ⊥
+  no-header : (p : Part) → partOf (kindOf code) ≡ p → (tagOf Part.the-type p ≡ 1 → ⊥) → WellFormed o SOFH (chunk code body) → ⊥
   no-header p e h i = h (apart (kindOf code) p Header e (is-sofh (kindOf code) (i .0)))
 
   -- the first chunk, by its part and by whether it is well-formed
@@ -85,8 +90,8 @@ module _ (o : Order) (code : ℕ) (body : List ℕ) where
   chunk-headed X a b Other w e i j well other = other (no-header Other e (λ h. omega arith))
 
 module _ (o : Order) (f : Frame) where
-  -- What the check makes of a frame after the first has a property, if the frame passes, or is data before the header's end, a header
-  -- or no chunk, and the property follows.
+  -- A frame after the first passes, or it is data before the header's end, a header, or no chunk: what holds of what the check makes of it
+  -- in each of these cases holds of what it makes of it.
   pub turned : (k : ℕ) (X : Answer Bool → Type 0) (ended : Bool) → ((next : Bool) → Passed o k ended f next → X (gives next)) →
       (IsData f → ended ≡ false → X (refuses 42)) → (OfKind SOFH f → X (refuses 43)) → (NoChunk f → X (refuses 44)) → X (turnOf o ended f)
   turned k X ended =
@@ -96,7 +101,7 @@ module _ (o : Order) (f : Frame) where
       (λ g e pass early second other. rw (other-made (refuses 44) (λ code body. passes (partOf (kindOf code)) ended (wellFormed o code body)) g e) (other e))
       f
 
-  -- and so has what it makes of the first frame, whether it is a well-formed SOFH or not
+  -- The first frame is a well-formed SOFH, or it is not: what holds of the answer in both cases holds of the answer.
   pub headed : (X : FileAnswer → Type 0) (rest : List Frame) → (WellFormed o SOFH f → Passed o 0 false f false → X (fileFrom o 1 (width f) false rest)) →
       ((WellFormed o SOFH f → ⊥) → X (refused 41 0)) → X (fileBy o (f ∷ rest))
   headed X rest =
