@@ -83,7 +83,7 @@ module _ {A : Type 0} (ok none : A → Bool) (d : A) (n : ℕ) where
 
 module _ {A : Type 0} (head value : ℕ) (o : Order) (n : ℕ) (rest : List ℕ) (f : ℕ → Answer A) (few : 1 ≤ n) (many : n ≤ 16) where
   -- the count is read back, and the values for that count
-  counted-back : 4 ≤ head → length (countThen o n rest) ≡ head + value * n → listed head value o (countThen o n rest) f ≡ f n
+  pub counted-back : 4 ≤ head → length (countThen o n rest) ≡ head + value * n → listed head value o (countThen o n rest) f ≡ f n
   counted-back h e =
       let t : atMost 17 n ≡ n = rw (le-ltb 17 n (omega arith)) in
       sym (listed-whole head value o (countThen o n rest) f n (sym (number-at o 4 (atMost 17 n) [] rest 0 refl (rw t (omega arith)) ∙ t)) (omega arith) few many e)
@@ -95,7 +95,7 @@ at-most-many n true e h = refl
 at-most-many n false e h = let k = ltb-false 17 n e in omega arith
 
 module _ {A : Type 0} (head value : ℕ) (o : Order) (n : ℕ) (rest : List ℕ) (f : ℕ → Answer A) where
-  counted-many : 16 < n → head ≤ length (countThen o n rest) → listed head value o (countThen o n rest) f ≡ refuses 13
+  pub counted-many : 16 < n → head ≤ length (countThen o n rest) → listed head value o (countThen o n rest) f ≡ refuses 13
   counted-many h k =
       let t : atMost 17 n ≡ 17 = at-most-many n (ltb 17 n) refl h in
       sym (listed-many head value o (countThen o n rest) f 17 (sym (number-at o 4 (atMost 17 n) [] rest 0 refl (rw t (omega arith)) ∙ t)) k (omega arith))
@@ -126,7 +126,7 @@ packing-small : (b : Bool) → pick b 1 0 < 256 ^ 4
 packing-small true = omega arith
 packing-small false = omega arith
 
-packing-is : (b : Bool) → eqb (pick b 1 0) 1 ≡ b
+pub packing-is : (b : Bool) → eqb (pick b 1 0) 1 ≡ b
 packing-is true = refl
 packing-is false = refl
 
@@ -160,17 +160,17 @@ module _ (o : Order) (g : GroupPacking) (few : 1 ≤ g .n) (many : g .n ≤ 16) 
   unfolding packingBody
   packing-read = counted-back 12 4 o (g .n) (iq ++ (increment ++ offsets)) (packed o (packingBody o g)) few many (omega arith) (packing-size o g (omega arith))
 
-  iq-at : pick (g .iq) 1 0 ≡ unsignedAt 4 o (packingBody o g) 4
+  pub iq-at : pick (g .iq) 1 0 ≡ unsignedAt 4 o (packingBody o g) 4
   unfolding packingBody
   iq-at = sym (number-at o 4 (pick (g .iq) 1 0) count (increment ++ offsets) 4 (bytes-length o 4 (atMost 17 (g .n))) (packing-small (g .iq)))
 
-  increment-at : g .increment ≡ unsignedAt 4 o (packingBody o g) 8
+  pub increment-at : g .increment ≡ unsignedAt 4 o (packingBody o g) 8
   unfolding packingBody
   increment-at =
       let n : length (count ++ iq) ≡ 8 = simp (length-append, bytes-length) in
       sym (ap (λ (l : List ℕ). unsignedAt 4 o l 8) (sym (append-assoc count iq (increment ++ offsets))) ∙ number-at o 4 (g .increment) (count ++ iq) offsets 8 n step)
 
-  offset-at : (c : ℕ) → c < g .n → offsetAt o (packingBody o g) c ≡ toZ w32 (getD (g .offsets) c 0)
+  pub offset-at : (c : ℕ) → c < g .n → offsetAt o (packingBody o g) c ≡ toZ w32 (getD (g .offsets) c 0)
   unfolding packingBody offsetAt
   offset-at c h =
       let front = (count ++ iq) ++ increment in
@@ -219,21 +219,22 @@ zero-is : (z : ℤ) → isZero z ≡ true → z ≡ pos 0
 zero-is (pos n) h = ap pos (eqb-true n 0 h)
 zero-is (negsuc n) h = let z : _≡_ {A = ℕ} 0 1 = cc in absurd (omega arith)
 
-module _ (o : Order) (g : GroupHertz) (good : goodFrequencies g ≡ true) (few : 1 ≤ g .n) (all : length (g .values) ≡ 16)
-    (fit : (c : ℕ) → SFits w64 (getD (g .values) c (pos 0))) where
-  hertz-at : (c : ℕ) → g .n ≤ 16 → c < g .n → hertzAt o (hertzBody o g) c ≡ getD (g .values) c (pos 0)
+module _ (o : Order) (g : GroupHertz) (all : length (g .values) ≡ 16) (fit : (c : ℕ) → SFits w64 (getD (g .values) c (pos 0))) where
+  pub hertz-at : (c : ℕ) → g .n ≤ 16 → c < g .n → hertzAt o (hertzBody o g) c ≡ getD (g .values) c (pos 0)
   unfolding hertzBody hertzAt
   hertz-at c many h =
       ap (toZ w64) (value-at o 8 (ofZ w64) (bytesOf o 4 (atMost 17 (g .n))) 4 (g .n) c (g .values) (pos 0) (bytes-length o 4 (atMost 17 (g .n))) h (omega arith) (ofZ-fits w64 _ (fit c) .fits))
       ∙ toZ-ofZ w64 _ (fit c)
 
+module _ (o : Order) (g : GroupHertz) (good : goodFrequencies g ≡ true) (few : 1 ≤ g .n) (all : length (g .values) ≡ 16)
+    (fit : (c : ℕ) → SFits w64 (getD (g .values) c (pos 0))) where
   pub hertz-back : gcf o (hertzBody o g) ≡ gives g
   unfolding hertzBody tuned
   hertz-back =
       let b = both-true (leb (g .n) 16) (goodFrom anyNumber isZero (g .n) 0 (g .values)) good in
       let many = leb-true (g .n) 16 (b .0) in
       counted-back 4 8 o (g .n) (runOf (int64 o) (take (g .n) (g .values))) (tuned o (hertzBody o g)) few many (omega arith) (values-size o 8 (g .n) (ofZ w64) (g .values) (omega arith))
-      ∙ rw (list-back anyNumber isZero (pos 0) (g .n) (hertzAt o (hertzBody o g)) (g .values) (b .1) (λ c h. hertz-at c many h) (λ c h. zero-is _ h) all)
+      ∙ rw (list-back anyNumber isZero (pos 0) (g .n) (hertzAt o (hertzBody o g)) (g .values) (b .1) (λ c h. hertz-at o g all fit c many h) (λ c h. zero-is _ h) all)
 
 -- ---- GRG_
 
@@ -242,7 +243,7 @@ plus-zero-is x f h = sym (ofBits-toBits binary32 x f) ∙ ap (ofBits binary32) (
 
 module _ (o : Order) (g : GroupGains) (few : 1 ≤ g .n) (many : g .n ≤ 16) (all : length (g .values) ≡ 16)
     (fit : (c : ℕ) → T (fits binary32 (getD (g .values) c (ofBits binary32 0)))) where
-  gain-at : (c : ℕ) → c < g .n → gainAt o (gainsBody o g) c ≡ getD (g .values) c (ofBits binary32 0)
+  pub gain-at : (c : ℕ) → c < g .n → gainAt o (gainsBody o g) c ≡ getD (g .values) c (ofBits binary32 0)
   unfolding gainsBody gainAt
   gain-at c h =
       ap (ofBits binary32) (value-at o 4 (toBits binary32) (bytesOf o 4 (atMost 17 (g .n))) 4 (g .n) c (g .values) (ofBits binary32 0) (bytes-length o 4 (atMost 17 (g .n))) h (omega arith) (toBits-lt binary32 _ (fit c)))

@@ -90,15 +90,20 @@ module _ (o : Order) where
   pub cf-back : (x : ℤ) → SFits w64 x → cf o (int64 o x) ≡ gives x
   cf-back x f = rw (eq-eqb _ _ (bytes-length o 8 (ofZ w64 x)), int64-back x f)
 
+  -- the first of two numbers
+  pub width-back : (width offset : ℤ) → SFits w64 width → check.int64 o (int64 o width ++ int64 o offset) 0 ≡ width
+  width-back width offset f =
+      ap (toZ w64) (number-at 8 (ofZ w64 width) [] (int64 o offset) 0 refl (ofZ-fits w64 width f .fits)) ∙ toZ-ofZ w64 width f
+
+  pub band-size : (width offset : ℤ) → length (int64 o width ++ int64 o offset) ≡ 16
+  band-size width offset = simp (length-append, bytes-length)
+
   pub bwof-back : (width offset : ℤ) → SFits w64 width → SFits w64 offset → leZ (pos 0) width ≡ true →
       bwof o (int64 o width ++ int64 o offset) ≡ gives (record { width = width; offset = offset })
   bwof-back width offset f g h =
-      let n : length (int64 o width ++ int64 o offset) ≡ 16 = simp (length-append, bytes-length) in
-      let a : check.int64 o (int64 o width ++ int64 o offset) 0 ≡ width =
-      ap (toZ w64) (number-at 8 (ofZ w64 width) [] (int64 o offset) 0 refl (ofZ-fits w64 width f .fits)) ∙ toZ-ofZ w64 width f in
       let b : check.int64 o (int64 o width ++ int64 o offset) 8 ≡ offset =
       ap (toZ w64) (number-last 8 (ofZ w64 offset) (int64 o width) 8 (bytes-length o 8 (ofZ w64 width)) (ofZ-fits w64 offset g .fits)) ∙ toZ-ofZ w64 offset g in
-      rw (eq-eqb _ _ n, a, b, h)
+      rw (eq-eqb _ _ (band-size width offset), width-back width offset f, b, h)
 
   finite-back : (x : Float) → T (fits binary32 x) → isFinite x ≡ true → levels.finite32 o (float32 o x) ≡ gives x
   finite-back x f h = rw (eq-eqb _ _ (bytes-length o 4 (toBits binary32 x)), float32-back x f, h)
