@@ -90,10 +90,9 @@ module _ (o : Order) where
   pub cf-back : (x : ℤ) → SFits w64 x → cf o (int64 o x) ≡ gives x
   cf-back x f = rw (eq-eqb _ _ (bytes-length o 8 (ofZ w64 x)), int64-back x f)
 
-  -- the first of two numbers
-  pub width-back : (width offset : ℤ) → SFits w64 width → check.int64 o (int64 o width ++ int64 o offset) 0 ≡ width
-  width-back width offset f =
-      ap (toZ w64) (number-at 8 (ofZ w64 width) [] (int64 o offset) 0 refl (ofZ-fits w64 width f .fits)) ∙ toZ-ofZ w64 width f
+  -- a number in front, whatever comes behind
+  pub first-back : (x : ℤ) (post : List ℕ) → SFits w64 x → check.int64 o (int64 o x ++ post) 0 ≡ x
+  first-back x post f = ap (toZ w64) (number-at 8 (ofZ w64 x) [] post 0 refl (ofZ-fits w64 x f .fits)) ∙ toZ-ofZ w64 x f
 
   pub band-size : (width offset : ℤ) → length (int64 o width ++ int64 o offset) ≡ 16
   band-size width offset = simp (length-append, bytes-length)
@@ -103,7 +102,7 @@ module _ (o : Order) where
   bwof-back width offset f g h =
       let b : check.int64 o (int64 o width ++ int64 o offset) 8 ≡ offset =
       ap (toZ w64) (number-last 8 (ofZ w64 offset) (int64 o width) 8 (bytes-length o 8 (ofZ w64 width)) (ofZ-fits w64 offset g .fits)) ∙ toZ-ofZ w64 offset g in
-      rw (eq-eqb _ _ (band-size width offset), width-back width offset f, b, h)
+      rw (eq-eqb _ _ (band-size width offset), first-back width (int64 o offset) f, b, h)
 
   finite-back : (x : Float) → T (fits binary32 x) → isFinite x ≡ true → levels.finite32 o (float32 o x) ≡ gives x
   finite-back x f h = rw (eq-eqb _ _ (bytes-length o 4 (toBits binary32 x)), float32-back x f, h)

@@ -7,8 +7,9 @@ use native.Mathlib.Omega.{arith}
 use borrow.Author.Tests.{eq-eqb}
 use lib.ListN.{length, take, drop, replicate, length-append, length-replicate, replicate-append-replicate}
 use lib.Seq.{take-at, drop-at, take-append-add}
-use Rattle.num.specs.Answer.{gives}
-use Rattle.num.specs.Number.{bytesOf}
+use Rattle.num.specs.Answer.{gives, refuses}
+use Rattle.num.specs.Choice.{pick}
+use Rattle.num.specs.Number.{unsignedAt, bytesOf}
 use Rattle.num.specs.declared.Order.{Order}
 use Rattle.num.proofs.Laws.{bytes-length}
 use Rattle.text.specs.Utf8.{isUtf8}
@@ -62,16 +63,36 @@ unfolding plain.zeros
 zeros-zero zero = refl
 zeros-zero (suc n) = zeros-zero n
 
--- What a text makes is read back as the text's length, and it is well-formed where the text is UTF-8.
-pub text-back : (o : Order) (t : List ℕ) → length t < 2 ^ 31 → isUtf8 t ≡ true → text o (textBody o t) ≡ gives (length t)
-unfolding textBody texts
-text-back o t h u =
-    let n = length t in
-    let x = bytesOf o 4 n in
-    let y = zeros (padded n - n) in
-    let body = x ++ (t ++ y) in
-    let j : length (x ++ t) ≡ 4 + n = simp (length-append, bytes-length) in
-    let d : drop (4 + n) body ≡ y = ap (drop (4 + n)) (sym (append-assoc x t y)) ∙ drop-at (x ++ t) y (4 + n) j in
-    let e : take n (drop 4 body) ≡ t = ap (take n) (drop-at x (t ++ y) 4 (bytes-length o 4 n)) ∙ take-at t y n refl in
-    sym (text-length o body n (sym (number-at o 4 n [] (t ++ y) 0 refl (omega arith))) (omega (arith, text-size o t)) h)
-    ∙ rw (eq-eqb _ _ (text-size o t), d, zeros-zero (padded n - n), e, u)
+module _ (o : Order) (t : List ℕ) where
+  abbrev behind : List ℕ
+  behind = t ++ zeros (padded (length t) - length t)
+
+  -- the bytes of the text stand behind its length
+  pub text-bytes : take (length t) (drop 4 (textBody o t)) ≡ t
+  unfolding textBody
+  text-bytes =
+      ap (take (length t)) (drop-at (bytesOf o 4 (length t)) behind 4 (bytes-length o 4 (length t)))
+      ∙ take-at t (zeros (padded (length t) - length t)) (length t) refl
+
+  padding-back : drop (4 + length t) (textBody o t) ≡ zeros (padded (length t) - length t)
+  unfolding textBody
+  padding-back =
+      let x = bytesOf o 4 (length t) in
+      let y = zeros (padded (length t) - length t) in
+      let j : length (x ++ t) ≡ 4 + length t = simp (length-append, bytes-length) in
+      ap (drop (4 + length t)) (sym (append-assoc x t y)) ∙ drop-at (x ++ t) y (4 + length t) j
+
+  -- the length stands in front, where four bytes hold it
+  pub length-back : length t < 2 ^ 32 → length t ≡ unsignedAt 4 o (textBody o t) 0
+  unfolding textBody
+  length-back h = sym (number-at o 4 (length t) [] behind 0 refl (omega arith))
+
+  -- What a text makes is read as the text's length where the text is UTF-8, and else refused with 15.
+  pub text-read : length t < 2 ^ 31 → text o (textBody o t) ≡ pick (isUtf8 t) (gives (length t)) (refuses 15)
+  unfolding texts
+  text-read h =
+      sym (text-length o (textBody o t) (length t) (length-back (omega arith)) (omega (arith, text-size o t)) h)
+      ∙ rw (eq-eqb _ _ (text-size o t), padding-back, zeros-zero (padded (length t) - length t), text-bytes)
+
+  pub text-back : length t < 2 ^ 31 → isUtf8 t ≡ true → text o (textBody o t) ≡ gives (length t)
+  text-back h u = text-read h ∙ rw u

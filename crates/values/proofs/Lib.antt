@@ -1,2 +1,5 @@
 pub mod Numbers
 pub mod Groups
+pub mod Texts
+pub mod Samples
+pub mod Table

@@ -24,7 +24,7 @@ use Rattle.body.specs.declared.numbers.Band.{Band}
 use Rattle.state.specs.Good.{zeroOrOne, isScale}
 use Rattle.lay.specs.Numbers.{int32, int64}
 use Rattle.typed.specs.Bodies.{float32}
-use Rattle.typed.proofs.Numbers.{int32-back, int64-back, float32-back, width-back, band-size, bwof-back}
+use Rattle.typed.proofs.Numbers.{int32-back, int64-back, float32-back, first-back, band-size, bwof-back}
 use Rattle.values.specs.Made.{Fitting}
 use Rattle.values.specs.Says.{unless, judged, says}
 use Rattle.body.specs.declared.kinds.Kind.the-variants.{SIQP, SR, BW, BWOF, DBFS, DBTG, FFS}
@@ -57,7 +57,7 @@ module _ (o : Order) where
   band-by : (b : Band) (ok : Bool) → leZ (pos 0) (b .width) ≡ ok → SFits w64 (b .width) → SFits w64 (b .offset) →
       bwof o (int64 o (b .width) ++ int64 o (b .offset)) ≡ then (unless 12 ok) (λ _. gives b)
   band-by b true e f g = bwof-back o (b .width) (b .offset) f g e
-  band-by b false e f g = rw (eq-eqb _ _ (band-size o (b .width) (b .offset)), width-back o (b .width) (b .offset) f, e)
+  band-by b false e f g = rw (eq-eqb _ _ (band-size o (b .width) (b .offset)), first-back o (b .width) (int64 o (b .offset)) f, e)
 
   pub bwof-said : (b : Band) → Fitting BWOF b → bwof o (int64 o (b .width) ++ int64 o (b .offset)) ≡ says BWOF b
   bwof-said b f = band-by b (leZ (pos 0) (b .width)) refl (f .0) (f .1)

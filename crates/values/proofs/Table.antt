@@ -1,0 +1,104 @@
+-- Values of every kind: what reading their body says, whether a record of them may be written, and that what may be
+-- written is read back as it was given.
+use Prim.Native.Nat.{ℕ, _+_, _*_, _≤_}
+use mathlib.Core.Path.{_≡_, refl, sym, ap, _∙_}
+use mathlib.Core.Bool.{Bool, true, false}
+use mathlib.Core.List.{List, []}
+use native.Mathlib.Omega.{arith}
+use borrow.Author.Tests.{eq-eqb, ltb-true, ltb-false}
+use lib.Dec.{ltb}
+use lib.Ieee.{binary32, toBits}
+use lib.IntN.{pos}
+use lib.ListN.{length, take, length-append}
+use lib.Seq.{take-all}
+use mir.Syntax.{w32, w64}
+use mir.Val.{ofZ}
+use Rattle.num.specs.Answer.{Answer, gives, refuses, then}
+use Rattle.num.specs.Choice.{pick}
+use Rattle.num.specs.declared.Order.{Order}
+use Rattle.num.proofs.Laws.{bytes-length}
+use Rattle.frame.specs.Place.{goodSize}
+use Rattle.body.specs.Kind.{codeOf, known, kindIn, kindOf}
+use Rattle.body.specs.Table.{Row, sets, marks, leaves, samples, unknown, row}
+use Rattle.body.specs.Verdict.{seen, verdictBy, verdict}
+use Rattle.body.specs.declared.kinds.Kind.{Kind}
+use Rattle.body.specs.declared.kinds.Kind.the-variants.{SSNC, SSNR, SFNC, SFNR, GSNC, GFNC, SIQP, SR, BW, GCBW, BWOF, CF, DBFS, DBTG, FFS, GIQP, GCF, GRG, SOFH, EOFH, IQDC, TEXT, Unknown}
+use Rattle.writer.specs.Write.{mayBy, mayWrite, writeOf}
+use Rattle.typed.proofs.Numbers.{sofh-back, cf-back, band-size}
+use Rattle.typed.proofs.Texts.{text-size, text-bytes}
+use Rattle.values.specs.Made.{Made, Fitting, bodyOf, sizeOf}
+use Rattle.values.specs.Says.{judged, may, readBy, reading, asRead, says}
+use Rattle.values.specs.Back.{Behind, Back}
+use Rattle.values.proofs.Numbers.{siqp-said, least-said, bwof-said, dbfs-said, dbtg-said, ffs-said}
+use Rattle.values.proofs.Groups.{packing-said, hertz-said, gains-said}
+use Rattle.values.proofs.Texts.{text-said}
+use Rattle.values.proofs.Samples.{samples-said, numbers-behind}
+
+-- Reading the body that values of a kind make says exactly what the kind's row says of the values: it gives them, as
+-- they are read, or it refuses them with the row's number.
+pub values-said : (o : Order) (k : Kind) (v : Made k) → Fitting k v → reading k o (bodyOf k o v) ≡ says k v
+values-said o SSNC v f = samples-said false o v 2 (f .0)
+values-said o SSNR v f = samples-said false o v 1 (f .0)
+values-said o GSNC v f = samples-said false o v 2 (f .0)
+values-said o SFNC v f = samples-said true o v 2 (f .0)
+values-said o SFNR v f = samples-said true o v 1 (f .0)
+values-said o GFNC v f = samples-said true o v 2 (f .0)
+values-said o SIQP x f = siqp-said o x f
+values-said o SR x f = least-said o (pos 1) x f
+values-said o BW x f = least-said o (pos 0) x f
+values-said o GCBW x f = least-said o (pos 0) x f
+values-said o BWOF b f = bwof-said o b f
+values-said o CF x f = cf-back o x f
+values-said o DBFS x f = dbfs-said o x f
+values-said o DBTG x f = dbtg-said o x f
+values-said o FFS x f = ffs-said o x f
+values-said o GIQP g f = packing-said o g f
+values-said o GCF g f = hertz-said o g f
+values-said o GRG g f = gains-said o g f
+values-said o SOFH x f = sofh-back o x f
+values-said o EOFH v f = refl
+values-said o IQDC v f = refl
+values-said o TEXT t f = text-said o t
+values-said o Unknown v f = absurd v
+
+-- ---- whether a record of the values may be written
+
+-- an answer with its value left out is the verdict
+seen-says : {A : Type 0} (j : Answer (Unit {0})) (x : A) → seen (then j (λ _. gives x)) ≡ j
+seen-says (gives u) x = refl
+seen-says (refuses n) x = refl
+
+-- the verdict on a body is its reading with the value left out
+verdict-by : (r : Row) (o : Order) (body : List ℕ) → verdictBy r o body ≡ seen (readBy r o body)
+verdict-by (sets x hold read) o body = refl
+verdict-by (marks read) o body = refl
+verdict-by (leaves read) o body = refl
+verdict-by (samples shape) o body = refl
+verdict-by unknown o body = refl
+
+-- the type of a kind is that kind's alone
+kind-back : (k : Kind) → Made k → kindOf (codeOf k) ≡ k
+unfolding known kindIn kindOf
+kind-back SSNC v = refl
+kind-back SSNR v = refl
+kind-back GSNC v = refl
+kind-back SFNC v = refl
+kind-back SFNR v = refl
+kind-back GFNC v = refl
+kind-back SIQP v = refl
+kind-back SR v = refl
+kind-back BW v = refl
+kind-back GCBW v = refl
+kind-back BWOF v = refl
+kind-back CF v = refl
+kind-back DBFS v = refl
+kind-back DBTG v = refl
+kind-back FFS v = refl
+kind-back GIQP v = refl
+kind-back GCF v = refl
+kind-back GRG v = refl
+kind-back SOFH v = refl
+kind-back EOFH v = refl
+kind-back IQDC v = refl
+kind-back TEXT v = refl
+kind-back Unknown v = refl
