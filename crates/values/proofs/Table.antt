@@ -1,5 +1,4 @@
--- Values of every kind: what reading their body says, whether a record of them may be written, and that what may be
--- written is read back as it was given.
+-- Reading the body that values make, kind by kind.
 use Prim.Native.Nat.{ℕ, _+_, _*_, _≤_}
 use mathlib.Core.Path.{_≡_, refl, sym, ap, _∙_}
 use mathlib.Core.Bool.{Bool, true, false}
@@ -60,45 +59,3 @@ values-said o EOFH v f = refl
 values-said o IQDC v f = refl
 values-said o TEXT t f = text-said o t
 values-said o Unknown v f = absurd v
-
--- ---- whether a record of the values may be written
-
--- an answer with its value left out is the verdict
-seen-says : {A : Type 0} (j : Answer (Unit {0})) (x : A) → seen (then j (λ _. gives x)) ≡ j
-seen-says (gives u) x = refl
-seen-says (refuses n) x = refl
-
--- the verdict on a body is its reading with the value left out
-verdict-by : (r : Row) (o : Order) (body : List ℕ) → verdictBy r o body ≡ seen (readBy r o body)
-verdict-by (sets x hold read) o body = refl
-verdict-by (marks read) o body = refl
-verdict-by (leaves read) o body = refl
-verdict-by (samples shape) o body = refl
-verdict-by unknown o body = refl
-
--- the type of a kind is that kind's alone
-kind-back : (k : Kind) → Made k → kindOf (codeOf k) ≡ k
-unfolding known kindIn kindOf
-kind-back SSNC v = refl
-kind-back SSNR v = refl
-kind-back GSNC v = refl
-kind-back SFNC v = refl
-kind-back SFNR v = refl
-kind-back GFNC v = refl
-kind-back SIQP v = refl
-kind-back SR v = refl
-kind-back BW v = refl
-kind-back GCBW v = refl
-kind-back BWOF v = refl
-kind-back CF v = refl
-kind-back DBFS v = refl
-kind-back DBTG v = refl
-kind-back FFS v = refl
-kind-back GIQP v = refl
-kind-back GCF v = refl
-kind-back GRG v = refl
-kind-back SOFH v = refl
-kind-back EOFH v = refl
-kind-back IQDC v = refl
-kind-back TEXT v = refl
-kind-back Unknown v = refl
