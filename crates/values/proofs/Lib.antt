@@ -5,3 +5,6 @@ pub mod Samples
 pub mod Table
 pub mod May
 pub mod Back
+pub mod Raw
+pub mod Limits
+pub mod Answers

@@ -33,7 +33,7 @@ use Rattle.values.specs.Says.{unless, whole, timedAs}
 
 module _ (w per : ℕ) (wide : 0 < w) where
   -- the bytes of n numbers are whole samples where n numbers are
-  whole-by : (n : ℕ) (b : Bool) → eqb (n % per) 0 ≡ b → eqb (n * w % (per * w)) 0 ≡ b
+  pub whole-by : (n : ℕ) (b : Bool) → eqb (n % per) 0 ≡ b → eqb (n * w % (per * w)) 0 ≡ b
   whole-by n true e =
       let z = eqb-true (n % per) 0 e in
       let m : n / per * per ≡ n = omega (arith, div-add-mod' n per) in
