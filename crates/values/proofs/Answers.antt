@@ -1,14 +1,14 @@
 -- What each call answers that writes values: said of any call that meets its promise, from its arguments a, its answer r
 -- and its arguments s as they are at the end. The values have the width of their types, as those of every call have.
 use Prim.Native.Nat.{ℕ, _+_, _≤_}
-use mathlib.Core.Path.{_≡_, refl, sym, ap, _∙_}
+use mathlib.Core.Path.{_≡_, sym, ap, _∙_}
 use mathlib.Core.List.{List}
 use native.Mathlib.Omega.{arith}
 use borrow.Author.Tests.{le-ltb}
 use lib.Ieee.{Float}
 use lib.IntN.{ℤ}
 use lib.ListN.{length}
-use Rattle.num.specs.Answer.{Answer, gives, refuses, refusal, then}
+use Rattle.num.specs.Answer.{gives, refuses, refusal}
 use Rattle.num.specs.declared.Order.{Order}
 use Rattle.frame.specs.Frames.{chunkBytes}
 use Rattle.body.specs.Kind.{codeOf}
@@ -17,7 +17,7 @@ use Rattle.body.specs.declared.kinds.Kind.{Kind}
 use Rattle.body.specs.declared.kinds.Kind.the-variants as K
 use Rattle.body.specs.declared.levels.Level.the-variants.{FullScale, TotalGain, FloatFullScale}
 use Rattle.body.specs.declared.numbers.Band.{Band}
-use Rattle.writer.specs.Write.{mayBy, writeBy, mayWrite, writeOf, writtenOut, writtenSaid, laidBy}
+use Rattle.writer.specs.Write.{writeBy, writeOf, writtenOut, writtenSaid, laidBy}
 use Rattle.writer.specs.declared.Written.{Written}
 use Rattle.writer.specs.declared.Written.the-variants.{Next}
 use Rattle.writer.proofs.Laws.{next-given, written}

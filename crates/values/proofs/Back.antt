@@ -1,8 +1,7 @@
 -- What may be written is read back as it was given, kind by kind.
-use Prim.Native.Nat.{ℕ, _+_, _≤_}
-use mathlib.Core.Path.{_≡_, refl, sym, ap, _∙_}
+use Prim.Native.Nat.{ℕ}
+use mathlib.Core.Path.{_≡_, sym, ap, _∙_}
 use mathlib.Core.Bool.{Bool, true, false}
-use mathlib.Core.List.{List}
 use native.Mathlib.Omega.{arith}
 use Rattle.num.specs.Answer.{Answer, gives, refuses, then}
 use Rattle.num.specs.Choice.{pick}
@@ -11,10 +10,10 @@ use Rattle.frame.specs.Place.{goodSize}
 use Rattle.body.specs.Kind.{codeOf}
 use Rattle.body.specs.declared.kinds.Kind.{Kind}
 use Rattle.body.specs.declared.kinds.Kind.the-variants.{SSNC, SSNR, SFNC, SFNR, GSNC, GFNC, SIQP, SR, BW, GCBW, BWOF, CF, DBFS, DBTG, FFS, GIQP, GCF, GRG, SOFH, EOFH, IQDC, TEXT, Unknown}
-use Rattle.writer.specs.Write.{mayBy, mayWrite}
+use Rattle.writer.specs.Write.{mayWrite}
 use Rattle.typed.proofs.Texts.{text-bytes}
 use Rattle.values.specs.Made.{Made, Fitting, bodyOf, sizeOf}
-use Rattle.values.specs.Says.{judged, may, asRead, says}
+use Rattle.values.specs.Says.{judged, asRead}
 use Rattle.values.specs.Back.{Behind, Back}
 use Rattle.values.proofs.Table.{values-said}
 use Rattle.values.proofs.Samples.{numbers-behind}

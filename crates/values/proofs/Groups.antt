@@ -1,13 +1,13 @@
 -- Reading what a group's values make says what the row says of the values, whatever their count.
-use Prim.Native.Nat.{ℕ, zero, suc, _+_, _*_, _^_, _≤_, _<_}
+use Prim.Native.Nat.{ℕ, zero, suc, _+_, _*_, _≤_, _<_}
 use mathlib.Core.Path.{_≡_, refl, sym, ap, _∙_}
 use mathlib.Core.Bool.{Bool, true, false}
 use mathlib.Core.List.{List, []}
 use native.Mathlib.Omega.{arith}
-use borrow.Author.Tests.{le-ltb, le-leb, ltb-true, ltb-false, leb-true, leb-false}
+use borrow.Author.Tests.{le-leb, ltb-true, ltb-false, leb-true, leb-false}
 use lib.Dec.{eqb, ltb, leb}
 use lib.Ieee.{binary32, ofBits, toBits}
-use lib.IntN.{ℤ, pos, natAbs}
+use lib.IntN.{pos, natAbs}
 use lib.ListN.{length, getD, length-append}
 use lib.Signed.{leZ}
 use mir.Syntax.{w32, w64}
@@ -18,8 +18,8 @@ use Rattle.num.specs.Choice.{pick, both, either, each}
 use Rattle.num.specs.Number.{unsignedAt}
 use Rattle.num.specs.declared.Order.{Order}
 use Rattle.num.proofs.Laws.{bytes-length}
-use Rattle.num.proofs.Tests.{both-true, each-at}
-use Rattle.body.specs.Groups.{listed, headOk, offsetAt, offsetsOk, packed, hertzAt, tuned, gainAt, gainsOk, amplified, giqp, gcf, grg}
+use Rattle.num.proofs.Tests.{each-at}
+use Rattle.body.specs.Groups.{listed, headOk, offsetAt, offsetsOk, packed, hertzAt, tuned, gainAt, amplified, giqp, gcf, grg}
 use Rattle.body.specs.Levels.{isFinite}
 use Rattle.body.specs.Lists.{upto, sixteen}
 use Rattle.body.specs.declared.groups.GroupPacking.{GroupPacking}
@@ -33,7 +33,7 @@ use Rattle.typed.specs.Groups.{atMost, countThen, packingBody, hertzBody, gains
 use Rattle.typed.proofs.Groups.{counted-back, counted-many, packing-is, packing-size, values-size, iq-at, increment-at, offset-at, hertz-at, gain-at}
 use Rattle.typed.proofs.Numbers.{number-at}
 use Rattle.values.specs.Made.{Fitting}
-use Rattle.values.specs.Says.{unless, counted, packingOk, gainsFinite, usedPacking, usedHertz, usedGains, says}
+use Rattle.values.specs.Says.{unless, packingOk, gainsFinite, usedPacking, usedHertz, usedGains, says}
 use Rattle.values.proofs.Numbers.{allowed-is}
 
 -- ---- lists and tests that agree below n

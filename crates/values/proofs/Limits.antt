@@ -1,31 +1,28 @@
--- Which values are refused with 32: texts and samples that are too long, and samples that do not fill words; no others.
+-- The numbers with which values are refused, 32 among them, in plain tests of the values: 32 comes of texts and samples
+-- that are too long, and of 16-bit numbers that do not fill whole words, and of nothing else.
 use Prim.Native.Nat.{ℕ, _+_, _*_, _%_, _^_, _≤_, _<_}
-use mathlib.Core.Path.{_≡_, refl, sym, ap, _∙_}
+use mathlib.Core.Path.{_≡_, refl, _∙_}
 use mathlib.Core.Bool.{Bool, true, false}
 use mathlib.Core.List.{List}
 use native.Mathlib.Nat.{add-mul-mod-self-left}
 use native.Mathlib.Omega.{arith}
-use borrow.Author.Tests.{eq-eqb, ne-eqb, lt-ltb, le-leb, lt-leb, leb-true, leb-false, eqb-true, eqb-false, ltb-true, ltb-false}
+use borrow.Author.Tests.{eq-eqb, lt-ltb, le-leb, lt-leb, leb-true, leb-false, eqb-true, ltb-false}
 use lib.Dec.{eqb, leb, ltb}
 use lib.IntN.{ℤ}
 use lib.ListN.{length}
-use Rattle.num.specs.Answer.{Answer, gives, refuses}
+use Rattle.num.specs.Answer.{Answer, refuses}
 use Rattle.num.specs.Choice.{pick, both}
-use Rattle.num.specs.declared.Order.{Order}
 use Rattle.text.specs.Utf8.{isUtf8}
 use Rattle.frame.specs.Place.{goodSize}
-use Rattle.body.specs.Kind.{codeOf}
 use Rattle.body.specs.Plain.{padded}
 use Rattle.body.specs.Table.{shaped}
 use Rattle.body.specs.declared.kinds.Kind.{Kind}
 use Rattle.body.specs.declared.kinds.Kind.the-variants.{SSNC, SSNR, SFNC, SFNR, GSNC, GFNC, SIQP, SR, BW, GCBW, BWOF, CF, DBFS, DBTG, FFS, GIQP, GCF, GRG, SOFH, EOFH, IQDC, TEXT, Unknown}
 use Rattle.body.specs.declared.sampled.Shaped.the-variants.{NoSamples}
-use Rattle.writer.specs.Write.{mayBy, mayWrite}
+use Rattle.writer.specs.Write.{mayBy}
 use Rattle.typed.specs.Groups.{atMost}
-use Rattle.typed.specs.Texts.{textBody}
-use Rattle.values.specs.Made.{Timed, Made, Fitting, bodyOf, sizeOf}
+use Rattle.values.specs.Made.{Timed, Made, sizeOf}
 use Rattle.values.specs.Says.{unless, whole, judged, may}
-use Rattle.values.proofs.May.{values-may}
 use Rattle.values.proofs.Samples.{whole-by}
 
 -- ---- the kinds of few bytes
@@ -68,9 +65,8 @@ never-large TEXT e h t = absurd (h refl)
 
 -- Of a kind that has no samples, and is not TEXT, values may be written or are refused just as their row says: never
 -- with 32.
-pub row-may : (o : Order) (k : Kind) (v : Made k) → Fitting k v → shaped k ≡ NoSamples → (k ≡ TEXT → ⊥) →
-    mayWrite o (codeOf k) (bodyOf k o v) ≡ judged k v
-row-may o k v f e h = values-may o k v f ∙ rw (never-large k e h v)
+pub row-may : (k : Kind) (v : Made k) → shaped k ≡ NoSamples → (k ≡ TEXT → ⊥) → may k v ≡ judged k v
+row-may k v e h = rw (never-large k e h v)
 
 -- ---- two tests that say the same
 
@@ -96,9 +92,8 @@ text-by n j false e =
     rw (lt-leb (4 + padded n) 69632 (omega arith))
 
 -- A text of more than 69,628 bytes is refused with 32, then one that is not UTF-8 with 15; the others may be written.
-pub text-may : (o : Order) (t : List ℕ) →
-    mayWrite o (codeOf TEXT) (textBody o t) ≡ pick (leb (length t) 69628) (unless 15 (isUtf8 t)) (refuses 32)
-text-may o t = values-may o TEXT t tt ∙ text-by (length t) (unless 15 (isUtf8 t)) (leb (length t) 69628) refl
+pub text-may : (t : List ℕ) → may TEXT t ≡ pick (leb (length t) 69628) (unless 15 (isUtf8 t)) (refuses 32)
+text-may t = text-by (length t) (unless 15 (isUtf8 t)) (leb (length t) 69628) refl
 
 -- ---- samples
 

@@ -1,6 +1,6 @@
 -- Whether a record of the values may be written: the exact answer over the values, kind by kind.
-use Prim.Native.Nat.{ℕ, _+_, _*_}
-use mathlib.Core.Path.{_≡_, refl, sym, ap, ap₂, _∙_}
+use Prim.Native.Nat.{ℕ, _*_}
+use mathlib.Core.Path.{_≡_, refl, ap, ap₂, _∙_}
 use mathlib.Core.Bool.{Bool, true, false}
 use mathlib.Core.List.{List}
 use native.Mathlib.Nat.{mul-comm}
@@ -20,14 +20,13 @@ use Rattle.num.proofs.Laws.{bytes-length}
 use Rattle.body.specs.Kind.{codeOf, known, kindIn, kindOf}
 use Rattle.body.specs.Table.{Row, sets, marks, leaves, samples, unknown, row}
 use Rattle.body.specs.Verdict.{seen, verdictBy, verdict}
-use Rattle.body.specs.declared.groups.GroupPacking.{GroupPacking}
 use Rattle.body.specs.declared.kinds.Kind.{Kind}
 use Rattle.body.specs.declared.kinds.Kind.the-variants.{SSNC, SSNR, SFNC, SFNR, GSNC, GFNC, SIQP, SR, BW, GCBW, BWOF, CF, DBFS, DBTG, FFS, GIQP, GCF, GRG, SOFH, EOFH, IQDC, TEXT, Unknown}
 use Rattle.lay.specs.Runs.{runOf}
 use Rattle.lay.proofs.Values.{run-length}
 use Rattle.writer.specs.Write.{mayBy, mayWrite}
 use Rattle.writer.proofs.Bodies.{body-length}
-use Rattle.typed.specs.Groups.{atMost, countThen, packingBody, hertzBody, gainsBody}
+use Rattle.typed.specs.Groups.{atMost, packingBody, hertzBody, gainsBody}
 use Rattle.typed.proofs.Numbers.{band-size}
 use Rattle.typed.proofs.Texts.{text-size}
 use Rattle.roundtrip.proofs.Numbers.{one-length, bytesOne}

@@ -1,33 +1,30 @@
 -- Reading what the values of the kinds of fixed size make says what their row says of the values.
-use Prim.Native.Nat.{ℕ}
-use mathlib.Core.Path.{_≡_, refl, ap}
+use mathlib.Core.Path.{_≡_, refl}
 use mathlib.Core.Bool.{Bool, true, false}
-use mathlib.Core.List.{List, [], _++_}
+use mathlib.Core.List.{_++_}
 use borrow.Author.Tests.{eq-eqb}
-use lib.Dec.{T, eqb}
+use lib.Dec.{T}
 use lib.Ieee.{Float, binary32, toBits, ofBits, fits, lt}
 use lib.IntN.{ℤ, pos}
-use lib.ListN.{length, length-append}
 use lib.Signed.{leZ}
 use mir.Syntax.{w32, w64}
 use mir.Val.{SFits, ofZ}
-use Rattle.num.specs.Answer.{Answer, gives, refuses, then}
-use Rattle.num.specs.Choice.{pick, both}
+use Rattle.num.specs.Answer.{gives, then}
+use Rattle.num.specs.Choice.{both}
 use Rattle.num.specs.declared.Order.{Order}
 use Rattle.num.proofs.Laws.{bytes-length}
-use Rattle.body.specs.Check.{sized, allowed}
+use Rattle.body.specs.Check.{allowed}
 use Rattle.body.specs.Levels.{isFinite, finite32, dbfs, dbtg, ffs}
-use Rattle.body.specs.Numbers.{siqp, sofh, atLeast, cf, bwof}
-use Rattle.body.specs.declared.levels.Level.{Level}
+use Rattle.body.specs.Numbers.{siqp, atLeast, bwof}
 use Rattle.body.specs.declared.levels.Level.the-variants.{FullScale, TotalGain, FloatFullScale}
 use Rattle.body.specs.declared.numbers.Band.{Band}
-use Rattle.state.specs.Good.{zeroOrOne, isScale}
+use Rattle.state.specs.Good.{zeroOrOne}
 use Rattle.lay.specs.Numbers.{int32, int64}
 use Rattle.typed.specs.Bodies.{float32}
 use Rattle.typed.proofs.Numbers.{int32-back, int64-back, float32-back, first-back, band-size, bwof-back}
 use Rattle.values.specs.Made.{Fitting}
-use Rattle.values.specs.Says.{unless, judged, says}
-use Rattle.body.specs.declared.kinds.Kind.the-variants.{SIQP, SR, BW, BWOF, DBFS, DBTG, FFS}
+use Rattle.values.specs.Says.{unless, says}
+use Rattle.body.specs.declared.kinds.Kind.the-variants.{SIQP, BWOF, DBFS, DBTG, FFS}
 
 -- a value that is allowed or refused with 12, as the table has it
 pub allowed-is : {A : Type 0} (ok : Bool) (x : A) → allowed ok x ≡ then (unless 12 ok) (λ _. gives x)

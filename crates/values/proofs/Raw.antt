@@ -1,21 +1,20 @@
 -- Raw bodies with faults that no values can have, each refused with its number.
 use Prim.Native.Nat.{ℕ, _+_, _*_, _-_, _%_, _^_, _≤_, _<_}
 use mathlib.Core.Path.{_≡_, refl, sym, ap, _∙_}
-use mathlib.Core.Bool.{Bool, true, false}
+use mathlib.Core.Bool.{true, false}
 use mathlib.Core.List.{List}
 use native.Mathlib.Omega.{arith}
-use borrow.Author.Tests.{eq-eqb, ne-eqb, lt-leb, le-leb}
-use lib.Dec.{eqb, leb}
+use borrow.Author.Tests.{eq-eqb, ne-eqb, lt-leb}
+use lib.Dec.{leb}
 use lib.ListN.{length, drop}
-use Rattle.num.specs.Answer.{Answer, gives, refuses, then}
-use Rattle.num.specs.Choice.{pick, both}
+use Rattle.num.specs.Answer.{Answer, refuses}
 use Rattle.num.specs.Number.{unsignedAt}
 use Rattle.num.specs.declared.Order.{Order}
 use Rattle.num.proofs.Tests.{both-false}
 use Rattle.frame.specs.Place.{goodSize}
 use Rattle.body.specs.Groups.{listed, packed, tuned, amplified}
 use Rattle.body.specs.Kind.{codeOf}
-use Rattle.body.specs.Plain.{zeros, padded, texts, text}
+use Rattle.body.specs.Plain.{zeros, padded, texts}
 use Rattle.body.specs.Samples.{sampleBytes, dataOf}
 use Rattle.body.specs.Table.{Row, sets, marks, leaves, samples, unknown, row, shapedBy, shaped}
 use Rattle.body.specs.Verdict.{seen, verdictBy, verdict}
@@ -23,13 +22,12 @@ use Rattle.body.specs.declared.groups.GroupPacking.{GroupPacking}
 use Rattle.body.specs.declared.groups.GroupHertz.{GroupHertz}
 use Rattle.body.specs.declared.groups.GroupGains.{GroupGains}
 use Rattle.body.specs.declared.kinds.Kind.{Kind}
-use Rattle.body.specs.declared.kinds.Kind.the-variants.{SIQP, TEXT}
+use Rattle.body.specs.declared.kinds.Kind.the-variants.{TEXT}
 use Rattle.body.specs.declared.sampled.Shape.{Shape}
-use Rattle.body.specs.declared.sampled.Shaped.{Shaped}
-use Rattle.body.specs.declared.sampled.Shaped.the-variants.{Samples, NoSamples}
+use Rattle.body.specs.declared.sampled.Shaped.the-variants.{Samples}
 use Rattle.body.proofs.GroupLaws.{listed-short, listed-none, listed-many, listed-size}
 use Rattle.body.proofs.Texts.{text-short, text-negative, text-length}
-use Rattle.writer.specs.Write.{mayBy, mayWrite}
+use Rattle.writer.specs.Write.{mayWrite}
 use Rattle.values.specs.Raw.{OneSize, Counts}
 use Rattle.values.specs.Raw as raw
 use Rattle.values.proofs.May.{code-back}
@@ -58,10 +56,10 @@ module _ (o : Order) (body : List ℕ) where
 -- ---- groups
 
 -- a kind that counts channels is read as a count and its values
-pub record Counting (o : Order) (body : List ℕ) (k : Kind) (head value : ℕ) : Type 1 where
-  pub Values : Type 0
-  pub valuesFor : ℕ → Answer Values
-  pub reads : verdict o k body ≡ seen (listed head value o body valuesFor)
+record Counting (o : Order) (body : List ℕ) (k : Kind) (head value : ℕ) : Type 1 where
+  Values : Type 0
+  valuesFor : ℕ → Answer Values
+  reads : verdict o k body ≡ seen (listed head value o body valuesFor)
 
 counting : (o : Order) (body : List ℕ) (k : Kind) (head value : ℕ) → Counts k head value → Counting o body k head value
 unfolding verdict

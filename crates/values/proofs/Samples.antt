@@ -1,23 +1,20 @@
 -- Reading what a time and numbers make says what the row says of them, and the numbers stand behind the time: once over
 -- the width of the numbers and over how many of them make a sample.
-use Prim.Native.Nat.{ℕ, zero, suc, _+_, _-_, _*_, _/_, _%_, _≤_, _<_}
+use Prim.Native.Nat.{ℕ, _+_, _-_, _*_, _/_, _%_, _<_}
 use mathlib.Core.Path.{_≡_, refl, sym, ap, _∙_}
 use mathlib.Core.Bool.{Bool, true, false}
-use mathlib.Core.List.{List, _++_}
 use native.Mathlib.Nat.{mul-assoc, eq-of-mul-eq-mul-right, mul-div-mul-right, mul-mod-left, div-add-mod'}
 use native.Mathlib.Omega.{arith}
 use borrow.Author.Tests.{eq-eqb, ne-eqb, le-leb, eqb-true, eqb-false}
-use lib.Dec.{eqb, leb}
-use lib.IntN.{ℤ}
+use lib.Dec.{eqb}
 use lib.ListN.{length, getD, drop}
 use lib.Seq.{drop-at}
 use mir.Syntax.{w64}
-use mir.Val.{SFits, toZ, ofZ}
-use Rattle.num.specs.Answer.{Answer, gives, refuses, then}
-use Rattle.num.specs.Choice.{pick, both}
+use mir.Val.{SFits, ofZ}
+use Rattle.num.specs.Answer.{gives, refuses, then}
+use Rattle.num.specs.Choice.{pick}
 use Rattle.num.specs.declared.Order.{Order}
 use Rattle.num.proofs.Laws.{bytes-length}
-use Rattle.body.specs.Check as check
 use Rattle.body.specs.Samples.{timedSamples}
 use Rattle.body.specs.declared.sampled.Data.{Data}
 use Rattle.samples.specs.Inner.Plan.{numberBytes}

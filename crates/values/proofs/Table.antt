@@ -1,37 +1,17 @@
 -- Reading the body that values make, kind by kind.
-use Prim.Native.Nat.{ℕ, _+_, _*_, _≤_}
-use mathlib.Core.Path.{_≡_, refl, sym, ap, _∙_}
-use mathlib.Core.Bool.{Bool, true, false}
-use mathlib.Core.List.{List, []}
-use native.Mathlib.Omega.{arith}
-use borrow.Author.Tests.{eq-eqb, ltb-true, ltb-false}
-use lib.Dec.{ltb}
-use lib.Ieee.{binary32, toBits}
+use mathlib.Core.Path.{_≡_, refl}
+use mathlib.Core.Bool.{true, false}
 use lib.IntN.{pos}
-use lib.ListN.{length, take, length-append}
-use lib.Seq.{take-all}
-use mir.Syntax.{w32, w64}
-use mir.Val.{ofZ}
-use Rattle.num.specs.Answer.{Answer, gives, refuses, then}
-use Rattle.num.specs.Choice.{pick}
 use Rattle.num.specs.declared.Order.{Order}
-use Rattle.num.proofs.Laws.{bytes-length}
-use Rattle.frame.specs.Place.{goodSize}
-use Rattle.body.specs.Kind.{codeOf, known, kindIn, kindOf}
-use Rattle.body.specs.Table.{Row, sets, marks, leaves, samples, unknown, row}
-use Rattle.body.specs.Verdict.{seen, verdictBy, verdict}
 use Rattle.body.specs.declared.kinds.Kind.{Kind}
 use Rattle.body.specs.declared.kinds.Kind.the-variants.{SSNC, SSNR, SFNC, SFNR, GSNC, GFNC, SIQP, SR, BW, GCBW, BWOF, CF, DBFS, DBTG, FFS, GIQP, GCF, GRG, SOFH, EOFH, IQDC, TEXT, Unknown}
-use Rattle.writer.specs.Write.{mayBy, mayWrite, writeOf}
-use Rattle.typed.proofs.Numbers.{sofh-back, cf-back, band-size}
-use Rattle.typed.proofs.Texts.{text-size, text-bytes}
-use Rattle.values.specs.Made.{Made, Fitting, bodyOf, sizeOf}
-use Rattle.values.specs.Says.{judged, may, readBy, reading, asRead, says}
-use Rattle.values.specs.Back.{Behind, Back}
+use Rattle.typed.proofs.Numbers.{sofh-back, cf-back}
+use Rattle.values.specs.Made.{Made, Fitting, bodyOf}
+use Rattle.values.specs.Says.{reading, says}
 use Rattle.values.proofs.Numbers.{siqp-said, least-said, bwof-said, dbfs-said, dbtg-said, ffs-said}
 use Rattle.values.proofs.Groups.{packing-said, hertz-said, gains-said}
 use Rattle.values.proofs.Texts.{text-said}
-use Rattle.values.proofs.Samples.{samples-said, numbers-behind}
+use Rattle.values.proofs.Samples.{samples-said}
 
 -- Reading the body that values of a kind make says exactly what the kind's row says of the values: it gives them, as
 -- they are read, or it refuses them with the row's number.

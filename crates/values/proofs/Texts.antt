@@ -1,5 +1,5 @@
 -- Reading what a text makes says what the row says of the text, however long it is.
-use Prim.Native.Nat.{ℕ, _+_, _^_, _≤_, _<_}
+use Prim.Native.Nat.{ℕ, _+_, _^_, _≤_}
 use mathlib.Core.Path.{_≡_, refl, sym, _∙_}
 use mathlib.Core.Bool.{Bool, true, false}
 use mathlib.Core.List.{List}
@@ -7,7 +7,7 @@ use native.Mathlib.Omega.{arith}
 use borrow.Author.Tests.{ne-eqb, ltb-true, ltb-false}
 use lib.Dec.{ltb}
 use lib.ListN.{length}
-use Rattle.num.specs.Answer.{Answer, gives, refuses, then}
+use Rattle.num.specs.Answer.{gives, refuses, then}
 use Rattle.num.specs.Choice.{pick}
 use Rattle.num.specs.Number.{unsignedAt}
 use Rattle.num.specs.declared.Order.{Order}

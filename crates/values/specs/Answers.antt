@@ -18,7 +18,8 @@ use Rattle.values.specs.Says.{judged, may}
 use Rattle.values.specs.Back.{Back}
 
 -- Values v of the kind k are written at a place of a slice that holds d: r is the answer, and the slice then holds l.
-pub record Answers (k : Kind) (o : Order) (v : Made k) (d : List ℕ) (place : ℕ) (r : Written) (l : List ℕ) : Type 0 where
+pub record Answers (k : Kind) (o : Order) (v : Made k) (d : List ℕ) (place : ℕ) (r : Written) (l : List ℕ) :
+    Type 0 where
   -- the answer follows from the values, the length of the slice and the place
   pub said : writtenSaid r ≡ writeBy (judged k v) (sizeOf k v) (length d) place
   -- values that may not be written are refused with their number, and the slice is as it was

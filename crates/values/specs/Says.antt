@@ -35,12 +35,13 @@ unless number ok = pick ok (gives tt) (refuses number)
 
 -- number 13 unless there are 1 to 16 channels
 abbrev pub counted : ℕ → Answer (Unit {0}) → Answer (Unit {0})
-counted n judged = pick (both (leb 1 n) (leb n 16)) judged (refuses 13)
+counted n a = pick (both (leb 1 n) (leb n 16)) a (refuses 13)
 
 -- the increment is 1 or n, and each of n offsets is below 2^31
 abbrev pub packingOk : GroupPacking → Bool
 packingOk g =
-    both (either (eqb (g .increment) 1) (eqb (g .increment) (g .n))) (each (λ c. isOffset (getD (g .offsets) c 0)) (g .n))
+    both (either (eqb (g .increment) 1) (eqb (g .increment) (g .n)))
+    (each (λ c. isOffset (getD (g .offsets) c 0)) (g .n))
 
 -- each of n gains is finite
 abbrev pub gainsFinite : GroupGains → Bool
