@@ -7,4 +7,5 @@ pub mod May
 pub mod Back
 pub mod Raw
 pub mod Limits
+pub mod Faults
 pub mod Answers

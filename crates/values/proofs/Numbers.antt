@@ -16,6 +16,7 @@ use Rattle.num.proofs.Laws.{bytes-length}
 use Rattle.body.specs.Check.{allowed}
 use Rattle.body.specs.Levels.{isFinite, finite32, dbfs, dbtg, ffs}
 use Rattle.body.specs.Numbers.{siqp, atLeast, bwof}
+use Rattle.body.specs.declared.kinds.Kind.the-variants.{SIQP, BWOF, DBFS, DBTG, FFS}
 use Rattle.body.specs.declared.levels.Level.the-variants.{FullScale, TotalGain, FloatFullScale}
 use Rattle.body.specs.declared.numbers.Band.{Band}
 use Rattle.state.specs.Good.{zeroOrOne}
@@ -24,7 +25,6 @@ use Rattle.typed.specs.Bodies.{float32}
 use Rattle.typed.proofs.Numbers.{int32-back, int64-back, float32-back, first-back, band-size, bwof-back}
 use Rattle.values.specs.Made.{Fitting}
 use Rattle.values.specs.Says.{unless, says}
-use Rattle.body.specs.declared.kinds.Kind.the-variants.{SIQP, BWOF, DBFS, DBTG, FFS}
 
 -- a value that is allowed or refused with 12, as the table has it
 pub allowed-is : {A : Type 0} (ok : Bool) (x : A) → allowed ok x ≡ then (unless 12 ok) (λ _. gives x)
