@@ -83,8 +83,9 @@ module _ (o : Order) (k : Kind) (v : Made k) (fit : Fitting k v) (d : List ℕ) 
     back = λ next e. values-back o k v fit (next-given o (codeOf k) body (length d) place next (sym (met .0) ∙ ap writtenSaid e) .0);
   }
 
--- ---- the calls, each from one value
+-- ---- the calls
 
+-- Each call answers as the table says of the values that it is given: here those that are given one value,
 pub siqp-answers : (κs : _) (a : _) (r : _) (s : _) → siqp.Post κs a r s → Fitting K.SIQP (a .1 .0) →
     Answers K.SIQP (a .0) (a .1 .0) (a .1 .1 .0 .now) (a .1 .1 .1 .0) r (s .1 .1 .0 .now)
 siqp-answers κs a r s p f = answers (a .0) K.SIQP (a .1 .0) f (a .1 .1 .0 .now) (a .1 .1 .1 .0) r (s .1 .1 .0 .now) p
@@ -121,8 +122,7 @@ pub grg-answers : (κs : _) (a : _) (r : _) (s : _) → grg.Post κs a r s → F
     Answers K.GRG (a .0) (a .1 .0) (a .1 .1 .0 .now) (a .1 .1 .1 .0) r (s .1 .1 .0 .now)
 grg-answers κs a r s p f = answers (a .0) K.GRG (a .1 .0) f (a .1 .1 .0 .now) (a .1 .1 .1 .0) r (s .1 .1 .0 .now) p
 
--- the level kinds, by the case of the level
-
+-- the call of the three level kinds, by the case of the level,
 pub dbfs-answers : (κs : _) (a : _) (r : _) (s : _) → level.Post κs a r s → (x : Float) → a .1 .0 ≡ FullScale x → Fitting K.DBFS x →
     Answers K.DBFS (a .0) x (a .1 .1 .0 .now) (a .1 .1 .1 .0) r (s .1 .1 .0 .now)
 dbfs-answers κs a r s p x e f = answers (a .0) K.DBFS x f (a .1 .1 .0 .now) (a .1 .1 .1 .0) r (s .1 .1 .0 .now) (rw e at p)
@@ -135,14 +135,12 @@ pub ffs-answers : (κs : _) (a : _) (r : _) (s : _) → level.Post κs a r s →
     Answers K.FFS (a .0) x (a .1 .1 .0 .now) (a .1 .1 .1 .0) r (s .1 .1 .0 .now)
 ffs-answers κs a r s p x e f = answers (a .0) K.FFS x f (a .1 .1 .0 .now) (a .1 .1 .1 .0) r (s .1 .1 .0 .now) (rw e at p)
 
--- BWOF, from two values
-
+-- BWOF, from two values,
 pub bwof-answers : (κs : _) (a : _) (r : _) (s : _) → bwof.Post κs a r s → let b : Band = record { width = a .1 .0; offset = a .1 .1 .0 } in Fitting K.BWOF b →
     Answers K.BWOF (a .0) b (a .1 .1 .1 .0 .now) (a .1 .1 .1 .1 .0) r (s .1 .1 .1 .0 .now)
 bwof-answers κs a r s p f = answers (a .0) K.BWOF _ f (a .1 .1 .1 .0 .now) (a .1 .1 .1 .1 .0) r (s .1 .1 .1 .0 .now) p
 
--- EOFH and IQDC, from none
-
+-- EOFH and IQDC, from none,
 pub eofh-answers : (κs : _) (a : _) (r : _) (s : _) → eofh.Post κs a r s →
     Answers K.EOFH (a .0) tt (a .1 .0 .now) (a .1 .1 .0) r (s .1 .0 .now)
 eofh-answers κs a r s p = answers (a .0) K.EOFH tt tt (a .1 .0 .now) (a .1 .1 .0) r (s .1 .0 .now) p
@@ -151,14 +149,12 @@ pub iqdc-answers : (κs : _) (a : _) (r : _) (s : _) → iqdc.Post κs a r s →
     Answers K.IQDC (a .0) tt (a .1 .0 .now) (a .1 .1 .0) r (s .1 .0 .now)
 iqdc-answers κs a r s p = answers (a .0) K.IQDC tt tt (a .1 .0 .now) (a .1 .1 .0) r (s .1 .0 .now) p
 
--- TEXT, from its bytes
-
+-- TEXT, from its bytes,
 pub text-answers : (κs : _) (a : _) (r : _) (s : _) → text.Post κs a r s →
     Answers K.TEXT (a .0) (a .1 .0 .now) (a .1 .1 .0 .now) (a .1 .1 .1 .0) r (s .1 .1 .0 .now)
 text-answers κs a r s p = answers (a .0) K.TEXT (a .1 .0 .now) tt (a .1 .1 .0 .now) (a .1 .1 .1 .0) r (s .1 .1 .0 .now) p
 
--- the data kinds, from a time and numbers
-
+-- and the six data kinds, from a time and numbers.
 pub ssnc-answers : (κs : _) (a : _) (r : _) (s : _) → ssnc.Post κs a r s → let v : Timed ℤ = record { time = a .1 .0; numbers = a .1 .1 .0 .now } in Fitting K.SSNC v →
     Answers K.SSNC (a .0) v (a .1 .1 .1 .0 .now) (a .1 .1 .1 .1 .0) r (s .1 .1 .1 .0 .now)
 ssnc-answers κs a r s p f = answers (a .0) K.SSNC _ f (a .1 .1 .1 .0 .now) (a .1 .1 .1 .1 .0) r (s .1 .1 .1 .0 .now) p

@@ -129,6 +129,7 @@ module _ (o : Order) (g : GroupPacking) (fit : Fitting GIQP g) where
     packed-said : packed o body (g .n) ≡ then (unless 12 (packingOk g)) (λ _. gives (usedPacking g))
     packed-said = packed-by _ _ (head-said (g .iq) (g .increment) (g .n) many) offsets-said
 
+  -- Reading the body of a group's packing says what the row says of the packing,
   pub packing-said : giqp o (packingBody o g) ≡ says GIQP g
   unfolding packingBody
   packing-said =
@@ -142,6 +143,7 @@ module _ (o : Order) (g : GroupHertz) (fit : Fitting GCF g) where
   unfolding tuned
   tuned-said many = rw (sixteen-same (hertzAt o (hertzBody o g)) (λ c. getD (g .values) c (pos 0)) (pos 0) (g .n) (λ c h. hertz-at o g (fit .0) (fit .1) c many h))
 
+  -- so too of frequencies,
   pub hertz-said : gcf o (hertzBody o g) ≡ says GCF g
   unfolding hertzBody
   hertz-said =
@@ -159,6 +161,7 @@ module _ (o : Order) (g : GroupGains) (fit : Fitting GRG g) where
       rw (each-same (λ c. isFinite (gainAt o (gainsBody o g) c)) (λ c. isFinite (getD (g .values) c d)) (g .n) (λ c h. ap isFinite (at c h)), sixteen-same (gainAt o (gainsBody o g)) (λ c. getD (g .values) c d) d (g .n) at)
       (allowed-is (gainsFinite g) (usedGains g))
 
+  -- and of gains.
   pub gains-said : grg o (gainsBody o g) ≡ says GRG g
   unfolding gainsBody
   gains-said =

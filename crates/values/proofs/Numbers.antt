@@ -44,6 +44,7 @@ then-is true x f = refl
 then-is false x f = refl
 
 module _ (o : Order) where
+  -- Reading the body of a value says what the row of its kind says of the value.
   pub siqp-said : (x : ℤ) → SFits w32 x → siqp o (int32 o x) ≡ says SIQP x
   siqp-said x f = rw (eq-eqb _ _ (bytes-length o 4 (ofZ w32 x)), int32-back o x f) (allowed-is (zeroOrOne x) x)
 

@@ -54,6 +54,7 @@ has-bytes true = omega arith
 has-bytes false = omega arith
 
 module _ (float : Bool) (o : Order) (v : Timed (Number float)) where
+  -- Reading the body of a time and numbers says what the row says of them.
   pub samples-said : (per : ℕ) → SFits w64 (v .time) →
       timedSamples (per * numberBytes float) o (bodyOf float o (v .time) (v .numbers)) ≡ then (whole per v) (λ _. gives (timedAs per v))
   samples-said per f =
@@ -64,6 +65,7 @@ module _ (float : Bool) (o : Order) (v : Timed (Number float)) where
       rw (first-back o (v .time) (runOf (bytesOne float o) (v .numbers)) f, size, le-leb 8 (8 + n * w) (omega arith), z, whole-by w per (has-bytes float) n (eqb (n % per) 0) refl, mul-div-mul-right {m = w} n per (has-bytes float))
       (timed-is (eqb (n % per) 0) (timedAs per v))
 
+  -- Each number stands in the body, behind the time, at its place.
   pub numbers-behind : AllFit float (v .numbers) → (i : ℕ) → i < length (v .numbers) →
       valueAt float o (drop 8 (bodyOf float o (v .time) (v .numbers))) i ≡ getD (v .numbers) i (none float)
   numbers-behind f i h =

@@ -43,5 +43,6 @@ module _ (o : Order) (t : List ℕ) where
   said-by true e = text-read o t (ltb-true (length t) (2 ^ 31) e) ∙ utf8-is (isUtf8 t)
   said-by false e = long-by (unsignedAt 4 o (textBody o t) 0) _ _ refl refl refl (ltb-false (length t) (2 ^ 31) e)
 
+  -- Reading the body of a text says what the row says of the text, for every text.
   pub text-said : text o (textBody o t) ≡ says TEXT t
   text-said = said-by (ltb (length t) (2 ^ 31)) refl
