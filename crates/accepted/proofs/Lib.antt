@@ -5,3 +5,4 @@ pub mod Back
 pub mod WrittenBack
 pub mod Calls
 pub mod Promised
+pub mod Values

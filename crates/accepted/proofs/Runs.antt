@@ -4,7 +4,7 @@ use mathlib.Core.Path.{_≡_, refl, ap, sym, _∙_}
 use mathlib.Core.List.{List, [], _∷_}
 use native.Mathlib.Omega.{arith}
 use lib.ListN.{length}
-use Rattle.num.specs.Answer.{gives}
+use Rattle.num.specs.Answer.{Answer, gives, replyWith}
 use Rattle.num.specs.declared.Order.{Order}
 use Rattle.lay.specs.Splice.{splice}
 use Rattle.frame.specs.Frames.{chunkBytes}
@@ -66,7 +66,7 @@ all-written (suc n) o d p calls r a =
     let s : writtenSaid (w .result) ≡ gives next = ap writtenSaid (a 0 (omega arith) .1) in
     let q : writeOf o (w .wrote .code) (w .wrote .body) (length d) p ≡ gives next = sym (m .0) ∙ s in
     let l : splice d p (chunkBytes o (w .wrote .code) (w .wrote .body)) ≡ w .left = sym (rw q at (m .1)) in
-    let j : placeAt p calls 1 ≡ next = rw s in
+    let j : placeAt p calls 1 ≡ next = ap (λ (x : Answer ℕ). replyWith (w .place) x .value) s in
     let i = all-written n o (w .left) (placeAt p calls 1) (rest calls) (run-rest n o d p calls r) (λ k h. a (suc k) (omega arith)) in
     rw (q, l, ← j) (i ∙ rw (held-rest d calls n, place-rest p calls n))
 
@@ -88,6 +88,6 @@ all-accepted (suc n) o d p calls m r e k h =
     let b = first-next o (w .wrote) (recordsTo n (rest calls)) d p m e in
     let s : writtenSaid (w .result) ≡ gives (b .0) = q .0 ∙ b .1 in
     let l : w .left ≡ splice d p (chunkBytes o (w .wrote .code) (w .wrote .body)) = rw (b .1) at (q .1) in
-    let j : placeAt p calls 1 ≡ b .0 = rw s in
+    let j : placeAt p calls 1 ≡ b .0 = ap (λ (x : Answer ℕ). replyWith (w .place) x .value) s in
     let go = all-accepted n o (w .left) (placeAt p calls 1) (rest calls) m (run-rest n o d p calls r) (rw (j, l) (b .2)) in
     accepted-cons n calls (b .0, written-told (w .result) (Next (b .0)) s) go k h

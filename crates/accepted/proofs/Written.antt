@@ -4,13 +4,13 @@ use mathlib.Core.Path.{_≡_, refl, ap, sym, _∙_}
 use mathlib.Core.List.{List}
 use native.Mathlib.Omega.{arith}
 use lib.ListN.{length}
-use Rattle.num.specs.Answer.{gives}
+use Rattle.num.specs.Answer.{Answer, gives, replyWith}
 use Rattle.num.specs.declared.Order.{Order}
-use Rattle.reader.specs.Item.{Item, end, itemSaid}
+use Rattle.reader.specs.Item.{end, itemSaid}
 use Rattle.reader.specs.Step.{newCursor, stepOf, after}
 use Rattle.reader.specs.declared.Cursor.{Cursor}
-use Rattle.reader.specs.declared.Item as declared
-use Rattle.reader.specs.declared.Item.the-variants.{PastEnd, BadState, End, Skipped, Unfinished, Chunk}
+use Rattle.reader.specs.declared.Item.the-variants.{End}
+use Rattle.reader.proofs.Told.{item-told}
 use Rattle.writer.specs.Records.{Ran}
 use Rattle.writer.specs.Write.{writtenSaid}
 use Rattle.ending.proofs.Calls.{NewCall, new-met, StepCall}
@@ -19,15 +19,6 @@ use Rattle.accepted.specs.Read.{ReadAs, behind, StepsRead}
 use Rattle.accepted.specs.Writing.{Writing, Accepted, placeAt, WriteRun, bytesWritten}
 use Rattle.accepted.proofs.Accepted.{next-behind, accepted-steps}
 use Rattle.accepted.proofs.Runs.{firstOf, recordsTo, rest, run-rest, all-typed, all-written}
-
--- only End says that no byte is left
-end-told : (i : declared.Item) → itemSaid i ≡ gives end → i ≡ End
-end-told PastEnd e = let z : _≡_ {A = ℕ} 0 1 = cc in absurd (omega arith)
-end-told BadState e = let z : _≡_ {A = ℕ} 0 1 = cc in absurd (omega arith)
-end-told End e = refl
-end-told (Skipped p n) e = let z : _≡_ {A = ℕ} 0 1 = cc in absurd (omega arith)
-end-told (Unfinished p n) e = let z : _≡_ {A = ℕ} 0 1 = cc in absurd (omega arith)
-end-told (Chunk p code size v) e = let z : _≡_ {A = ℕ} 0 1 = cc in absurd (omega arith)
 
 -- ---- the steps that read what a run wrote, by their number
 
@@ -39,7 +30,7 @@ module _ (o : Order) (s : List ℕ) where
       let h = r .writes 0 (omega arith) in
       let t = r .turns 0 (omega arith) in
       let q : writtenSaid (w .result) ≡ gives (a .0) = ap writtenSaid (a .1) in
-      rw (q, ← t .place) (next-behind (w .order) (w .wrote) (length (w .out)) (w .place) (a .0) (sym (h .said) ∙ q))
+      ap (λ (x : Answer ℕ). replyWith (w .place) x .value) q ∙ rw (← t .place) (next-behind (w .order) (w .wrote) (length (w .out)) (w .place) (a .0) (sym (h .said) ∙ q))
 
   step-at : (n : ℕ) (d : List ℕ) (p : ℕ) (writes : ℕ → Writing) (c : Cursor) → WriteRun n o d p writes → ((k : ℕ) → k < n → Accepted (writes k)) →
       StepsRead o s c p (recordsTo n writes) → (k : ℕ) → k < n → ReadAs s (writes k .place) (writes k .wrote) (stepOf o s (after k o s c) .item)
@@ -77,4 +68,4 @@ module _ (o : Order) (d : List ℕ) (n : ℕ) (writes : ℕ → Writing) (w : Wr
     pub written-end : n < m → calls n .result .item ≡ End
     written-end l =
         let s = bytesWritten n d writes in
-        end-told (calls n .result .item) (run-is-step m o s newCursor calls run n l .item ∙ step-last o s n 0 writes newCursor steps)
+        item-told (calls n .result .item) End (run-is-step m o s newCursor calls run n l .item ∙ step-last o s n 0 writes newCursor steps)

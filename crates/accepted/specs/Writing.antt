@@ -3,11 +3,10 @@ use Prim.Native.Nat.{ℕ, zero, suc, _<_}
 use mathlib.Core.Path.{_≡_}
 use mathlib.Core.List.{List}
 use lib.ListN.{length, take}
-use Rattle.num.specs.Answer.{Answer, gives, refuses}
 use Rattle.num.specs.declared.Order.{Order}
 use Rattle.lay.specs.Splice.{splice}
 use Rattle.writer.specs.Records.{Record, Typed}
-use Rattle.writer.specs.Write.{writeOf, writtenOut, writtenSaid}
+use Rattle.writer.specs.Write.{writeOf, writtenOut, writtenReply, writtenSaid}
 use Rattle.writer.specs.declared.Written.{Written}
 use Rattle.writer.specs.declared.Written.the-variants.{Next}
 
@@ -33,15 +32,11 @@ Accepted w = (next : ℕ) × (w .result ≡ Next next)
 
 -- ---- a run of calls, by their number
 
--- where to go on after an answer: at the next place, and after a refusal at the place as it came
-abbrev pub onward : Answer ℕ → ℕ → ℕ
-onward (gives next) place = next
-onward (refuses n) place = place
-
--- the place of call k, the first being made at p; for k calls, the place at which they ended
+-- the place of call k, the first being made at p, each next one at the place that goes with the answer before it; for k
+-- calls, the place at which they ended
 abbrev pub placeAt : ℕ → (ℕ → Writing) → ℕ → ℕ
 placeAt p calls zero = p
-placeAt p calls (suc k) = onward (writtenSaid (calls k .result)) (calls k .place)
+placeAt p calls (suc k) = writtenReply (calls k .place) (calls k .result) .value
 
 -- what the slice holds at call k, and held d at the first; for k calls, what they left in it
 abbrev pub heldAt : List ℕ → (ℕ → Writing) → ℕ → List ℕ

@@ -19,13 +19,13 @@ use Rattle.frame.specs.declared.Ahead.the-variants.{End}
 use Rattle.frame.proofs.Looks.{is-end}
 use Rattle.frame.proofs.Frames.{frames-nil}
 use Rattle.reader.specs.Items.{Given, itemsFrom}
-use Rattle.reader.specs.Step.{Step, stepBy, stepOf, after}
+use Rattle.reader.specs.Step.{Step, stepBy, stepOf, after, Fit}
 use Rattle.reader.specs.declared.Cursor.{Cursor}
 use Rattle.reader.proofs.Laws.{step-ahead, step-end, of-chunk, gives-on}
 use Rattle.reader.specs.Item.{Item, itemSaid}
 use Rattle.reader.specs.IsStep.{IsStep}
 use Rattle.reader.specs.declared.Stepped.{Stepped}
-use Rattle.reader.proofs.Theorems.{Fit, step-keeps-fit, told, ahead, one, goes}
+use Rattle.reader.proofs.Theorems.{step-keeps-fit, told, ahead, one, goes}
 use Rattle.bench.specs.Plain.{sound, soundCount}
 use Rattle.bench.specs.Inner.Sound.{soundIn}
 

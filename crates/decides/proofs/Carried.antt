@@ -18,9 +18,9 @@ use Rattle.state.proofs.Slots.{in-built, same-values}
 use Rattle.effect.specs.Ready.{noState}
 use Rattle.effect.specs.Effect.{effectBy, effect}
 use Rattle.effect.proofs.Slots.{keeps, owns}
-use Rattle.reader.specs.Step.{newCursor, before, after}
+use Rattle.reader.specs.Step.{newCursor, before, after, Fit}
 use Rattle.reader.specs.declared.Cursor.{Cursor}
-use Rattle.reader.proofs.Theorems.{Fit, new-fit}
+use Rattle.reader.proofs.Theorems.{new-fit}
 use Rattle.decides.specs.Last.{isSkipped, Last, nothing, set, lastAfter, valueBy, valueOf, lastValue, lastValues}
 use Rattle.decides.specs.Past.{found, past}
 use Rattle.decides.proofs.Past.{after-past}

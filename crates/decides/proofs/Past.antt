@@ -16,10 +16,10 @@ use Rattle.frame.specs.declared.Ahead.{Ahead}
 use Rattle.frame.specs.declared.Ahead.the-variants.{End, Stretch, Cut, Chunk}
 use Rattle.frame.proofs.Looks.{is-chunk, is-cut, is-stretch, is-end}
 use Rattle.frame.proofs.Frames.{gap-le, frames-nil, frames-chunk, frames-cut, frames-skip}
-use Rattle.reader.specs.Step.{Step, stepBy, stepOf, after}
+use Rattle.reader.specs.Step.{Step, stepBy, stepOf, after, Fit}
 use Rattle.reader.specs.declared.Cursor.{Cursor}
 use Rattle.reader.proofs.Laws.{step-end, step-ahead, chunk-size}
-use Rattle.reader.proofs.Theorems.{Fit, step-keeps-fit, goes}
+use Rattle.reader.proofs.Theorems.{step-keeps-fit, goes}
 use Rattle.decides.specs.Past.{past}
 
 -- a step moves the cursor past the first frame that is ahead, and the others are ahead of where it stands then

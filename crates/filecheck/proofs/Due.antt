@@ -14,8 +14,7 @@ use borrow.Author.Tests.{eqb-true, eqb-false}
 use Rattle.num.specs.Answer.{Answer}
 use Rattle.num.specs.Choice.{pick}
 use Rattle.num.specs.declared.Order.{Order}
-use Rattle.frame.specs.Frames.{Frame, width, frames}
-use Rattle.frame.proofs.Theorems.{covered}
+use Rattle.frame.specs.Frames.{Frame, width, frames, covered}
 use Rattle.body.specs.declared.kinds.Kind.the-variants.{SOFH, EOFH}
 use Rattle.reader.proofs.Theorems.{items-length}
 use Rattle.filecheck.specs.File.{good, refused, thenRest, fileFrom, fileBy, fileOf}

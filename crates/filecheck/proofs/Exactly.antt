@@ -12,10 +12,9 @@ use borrow.Author.Tests.{eqb-true, ltb-true, ltb-false}
 use Rattle.num.specs.Answer.{refuses, refusal}
 use Rattle.num.specs.Choice.{pick}
 use Rattle.num.specs.declared.Order.{Order}
-use Rattle.frame.specs.Frames.{Frame, chunk, ofChunk, width, first, framesBy, frames}
+use Rattle.frame.specs.Frames.{Frame, chunk, ofChunk, width, first, framesBy, frames, covered}
 use Rattle.frame.proofs.Looks.{frame-by, other-made}
 use Rattle.frame.proofs.Frames.{first-takes}
-use Rattle.frame.proofs.Theorems.{covered}
 use Rattle.body.specs.Kind.{kindOf}
 use Rattle.body.specs.declared.kinds.Kind.the-variants.{SOFH}
 use Rattle.filecheck.specs.File.{FileAnswer, good, refused, partOf, wellFormed, passes, fileOf}

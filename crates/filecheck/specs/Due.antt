@@ -8,8 +8,7 @@ use lib.Dec.{eqb}
 use lib.ListN.{length, take, drop}
 use Rattle.num.specs.Choice.{pick}
 use Rattle.num.specs.declared.Order.{Order}
-use Rattle.frame.specs.Frames.{Frame, ofChunk, isChunk, frames}
-use Rattle.frame.proofs.Theorems.{covered}
+use Rattle.frame.specs.Frames.{Frame, ofChunk, isChunk, frames, covered}
 use Rattle.body.specs.Kind.{kindOf}
 use Rattle.body.specs.Table.{shaped}
 use Rattle.body.specs.declared.kinds.Kind.{Kind}

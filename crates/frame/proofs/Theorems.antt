@@ -18,7 +18,7 @@ use Rattle.frame.specs.declared.Found.the-variants.{Place, Nothing}
 use Rattle.frame.specs.declared.OrderFound.{OrderFound}
 use Rattle.frame.specs.declared.OrderFound.the-variants.{Is, Neither}
 use Rattle.frame.specs.Place.{syncBytes, starts, shows, stops, gap, searchFrom, orderOf, orderSaid}
-use Rattle.frame.specs.Frames.{Frame, frameBytes, width, frameAt, first, framesBy, frames}
+use Rattle.frame.specs.Frames.{Frame, frameBytes, width, frameAt, first, framesBy, frames, covered}
 use Rattle.frame.proofs.Laws.{drop-bytes, shows-none, gap-stop, gap-pass, search-here, search-at, search-end}
 use Rattle.frame.proofs.Frames.{complete, chunk-back, gap-le, first-takes, fuel}
 
@@ -64,11 +64,6 @@ some-by (suc f) o (x ∷ l) a h m =
 -- and none is empty
 pub none-empty : (o : Order) (s : List ℕ) (a : Frame) → List·Memᴰ a (frames o s) → 1 ≤ width a
 none-empty o s a m = some-by (length s) o s a (omega arith) m
-
--- how many bytes some frames take
-abbrev pub covered : List Frame → ℕ
-covered [] = 0
-covered (a ∷ rest) = width a + covered rest
 
 ahead-by : (k f : ℕ) (o : Order) (l : List ℕ) → length l ≤ f → drop k (framesBy f o l) ≡ frames o (drop (covered (take k (framesBy f o l))) l)
 unfolding framesBy

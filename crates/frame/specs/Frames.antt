@@ -64,3 +64,8 @@ framesBy (suc f) o (x ∷ l) =
 -- a frame has a byte at least, so as much fuel as bytes is enough
 abbrev pub frames : Order → List ℕ → List Frame
 frames o l = framesBy (length l) o l
+
+-- how many bytes some frames take
+abbrev pub covered : List Frame → ℕ
+covered [] = 0
+covered (a ∷ rest) = width a + covered rest

@@ -25,17 +25,13 @@ use Rattle.state.specs.Good.{goodState}
 use Rattle.effect.specs.Ready.{noState}
 use Rattle.effect.specs.Says.{Says}
 use Rattle.reader.specs.Item.{Item, end, skipped, unfinished, chunk, ofChunk, isChunk, isEnd, placedBy, itemSaid}
-use Rattle.reader.specs.Step.{refused, skips, stepBy, stepOf}
+use Rattle.reader.specs.Step.{refused, skips, stepBy, stepOf, unfit}
 use Rattle.reader.specs.IsStep.{IsStep}
 use Rattle.reader.specs.declared.Cursor.{Cursor}
 use Rattle.reader.specs.declared.Item as declared
 use Rattle.reader.specs.declared.Item.the-variants as variants
 use Rattle.reader.proofs.Item.{the-type}
 use Rattle.reader.specs.declared.Stepped.{Stepped}
-
--- number 3 is due
-abbrev pub unfit : Cursor → Bool
-unfit c = both (c .«in_step») (not (goodState (c .state)))
 
 module _ (o : Order) (s : List ℕ) (c : Cursor) where
   pub step-past : length s < c .place → stepOf o s c ≡ refused 2 c

@@ -22,12 +22,12 @@ use Rattle.effect.specs.Effect.{effect}
 use Rattle.effect.specs.Says.{Says}
 use Rattle.reader.specs.Item.{chunk, itemSaid}
 use Rattle.reader.specs.Part.{bodyAt, bodyIn}
-use Rattle.reader.specs.Step.{before, refused, stepBy, stepOf}
+use Rattle.reader.specs.Step.{before, refused, stepBy, stepOf, unfit}
 use Rattle.reader.specs.declared.Cursor.{Cursor}
 use Rattle.reader.specs.declared.Item as declared
 use Rattle.reader.specs.declared.Item.the-variants as items
 use Rattle.reader.proofs.Item.{the-type}
-use Rattle.reader.proofs.Laws.{unfit, chunk-ends, chunk-size}
+use Rattle.reader.proofs.Laws.{chunk-ends, chunk-size}
 
 module _ (s : List ℕ) (place size : ℕ) where
   -- a body that does not lie within the stream is shown as none

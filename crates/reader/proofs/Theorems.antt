@@ -27,10 +27,10 @@ use Rattle.state.proofs.Laws.{empty-good}
 use Rattle.effect.specs.Effect.{effect}
 use Rattle.effect.proofs.Good.{effect-good}
 use Rattle.reader.specs.Item.{Item, isEnd}
-use Rattle.reader.specs.Step.{Step, newCursor, before, refused, skips, stepBy, stepOf, after}
+use Rattle.reader.specs.Step.{Step, newCursor, before, refused, skips, stepBy, stepOf, after, unfit, Fit}
 use Rattle.reader.specs.Items.{Given, itemsFrom, items}
 use Rattle.reader.specs.declared.Cursor.{Cursor}
-use Rattle.reader.proofs.Laws.{unfit, step-end, step-ahead, chunk-ends, chunk-size}
+use Rattle.reader.proofs.Laws.{step-end, step-ahead, chunk-ends, chunk-size}
 
 -- an item for each frame
 pub items-length : (o : Order) (p : ℕ) (step : Bool) (s : State) (fs : List Frame) → length (itemsFrom o p step s fs) ≡ length fs
@@ -48,10 +48,6 @@ after-suc zero o s c = refl
 after-suc (suc k) o s c = after-suc k o s (stepOf o s c .cursor)
 
 -- ---- a cursor that the reader gave is never refused with 3
-
--- number 3 is not due
-abbrev pub Fit : Cursor → Type 0
-Fit c = unfit c ≡ false
 
 pub new-fit : Fit newCursor
 new-fit = refl

@@ -1,5 +1,6 @@
 -- One step of the reader, and a run of steps.
 use Prim.Native.Nat.{ℕ, zero, suc, _+_}
+use mathlib.Core.Path.{_≡_}
 use mathlib.Core.Bool.{Bool, true, false, not}
 use mathlib.Core.List.{List}
 use lib.Dec.{ltb}
@@ -81,11 +82,19 @@ stepBy o l c (Chunk code size) =
 stepBy o l c Cut = cuts c (length l)
 stepBy o l c Stretch = skips c (gap o l)
 
--- number 2 past the end; number 3 in step with a state that is not good; then what is ahead
+-- number 3 is due: the cursor is in step with a state that is not good
+abbrev pub unfit : Cursor → Bool
+unfit c = both (c .«in_step») (not (goodState (c .state)))
+
+-- number 3 is not due
+abbrev pub Fit : Cursor → Type 0
+Fit c = unfit c ≡ false
+
+-- number 2 past the end; then number 3 where it is due; then what is ahead
 unfoldable pub stepOf : Order → List ℕ → Cursor → Step
 stepOf o s c =
     pick (ltb (length s) (c .place)) (refused 2 c)
-    (pick (both (c .«in_step») (not (goodState (c .state)))) (refused 3 c)
+    (pick (unfit c) (refused 3 c)
     (stepBy o (drop (c .place) s) c (aheadOf o (drop (c .place) s))))
 
 -- the cursor after so many steps

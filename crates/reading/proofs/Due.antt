@@ -22,9 +22,9 @@ use Rattle.frame.proofs.Looks.{is-chunk, is-cut, is-stretch, is-end, ahead-at, 
 use Rattle.frame.proofs.Laws.{gap-step}
 use Rattle.effect.specs.Says.{Says}
 use Rattle.reader.specs.Item.{Item, end, skipped, unfinished, chunk}
-use Rattle.reader.specs.Step.{Step, stepBy, stepOf}
+use Rattle.reader.specs.Step.{Step, stepBy, stepOf, unfit}
 use Rattle.reader.specs.declared.Cursor.{Cursor}
-use Rattle.reader.proofs.Laws.{unfit, step-past, step-unfit, step-ahead, step-end, step-accepts, step-skips}
+use Rattle.reader.proofs.Laws.{step-past, step-unfit, step-ahead, step-end, step-accepts, step-skips}
 use Rattle.reading.specs.Due.{showsAt, PastEndDue, BadStateDue, SkippedDue, UnfinishedDue, ChunkDue, Due}
 use Rattle.reading.specs.Ends.{Sound}
 use Rattle.reading.proofs.Stretch.{stop-within, reaches-within, stretch, stretch-only}

@@ -11,10 +11,9 @@ use borrow.Author.Tests.{eqb-true}
 use Rattle.num.specs.Answer.{refuses}
 use Rattle.num.specs.Choice.{pick}
 use Rattle.num.specs.declared.Order.{Order}
-use Rattle.reader.specs.Step.{stepOf}
+use Rattle.reader.specs.Step.{stepOf, unfit, Fit}
 use Rattle.reader.specs.declared.Cursor.{Cursor}
-use Rattle.reader.proofs.Laws.{unfit}
-use Rattle.reader.proofs.Theorems.{Fit, new-fit, before-good, step-keeps-fit}
+use Rattle.reader.proofs.Theorems.{new-fit, before-good, step-keeps-fit}
 use Rattle.reading.specs.Due.{PastEndDue, BadStateDue}
 use Rattle.reading.specs.FromNew.{FromNew, new, step, accept, lose}
 use Rattle.reading.proofs.Due.{due-exactly}

@@ -9,11 +9,10 @@ use Rattle.num.specs.declared.Order.{Order}
 use Rattle.effect.specs.Ready.{noState}
 use Rattle.reader.specs.Item.{end, isEnd, itemSaid}
 use Rattle.reader.specs.Items.{Given}
-use Rattle.reader.specs.Step.{Step, stepOf, after}
+use Rattle.reader.specs.Step.{Step, stepOf, after, Fit}
 use Rattle.reader.specs.declared.Cursor.{Cursor}
 use Rattle.reader.specs.declared.Item.the-variants.{End}
 use Rattle.reader.specs.declared.Stepped.{Stepped}
-use Rattle.reader.proofs.Theorems.{Fit}
 
 -- a cursor that no step refuses: its place is within the stream, and where it is in step its state is good
 pub record Sound (s : List ℕ) (c : Cursor) : Type 0 where

@@ -7,7 +7,6 @@ use native.Mathlib.Omega.{arith}
 use lib.IntN.{ℤ}
 use lib.ListN.{length, getD, drop, length-append, List·getD-append}
 use lib.Seq.{take-at, drop-at, drop-drop}
-use borrow.Author.Tests.{le-leb}
 use mir.Syntax.{w64}
 use mir.Val.{ofZ}
 use Rattle.num.specs.Answer.{Answer, gives, refuses}
@@ -36,6 +35,7 @@ use Rattle.samples.specs.declared.Layout.{Layout}
 use Rattle.samples.proofs.AtCursor.{stands}
 use Rattle.samples.proofs.Plans.{step-lies}
 use Rattle.samples.proofs.Ready.{bytesIn, effect-ready}
+use Rattle.samples.proofs.Theorems.{count-given}
 use Rattle.lay.specs.Numbers.{int64}
 use Rattle.lay.specs.Runs.{runOf}
 use Rattle.writer.specs.Write.{mayWrite, writeOf, writtenOut}
@@ -87,11 +87,6 @@ leftWith float o s c channel value out = filled (countOf float o s c channel (le
 abbrev pub leftBy : (float : Bool) → Order → List ℕ → Cursor → ℕ → List (Number float) → List (Number float)
 leftBy float o s c channel out = leftWith float o s c channel (valueAt float o (samplesAt o s c)) out
 
-count-by : (float : Bool) (o : Order) (s : List ℕ) (c : Cursor) (channel room : ℕ) (l : Layout) → layoutAt float o s c channel ≡ gives l → numbers l ≤ room →
-    countOf float o s c channel room ≡ gives (numbers l)
-unfolding countOf
-count-by float o s c channel room l e r = rw (e, le-leb (numbers l) room r)
-
 module _ (float : Bool) (o : Order) (s : List ℕ) (c : Cursor) (code : ℕ) (time : ℤ) (xs : List (Number float)) (h : Here float o s c code time xs) where
   -- the chunk that a step gives has the record's type and size
   chunk-is : (p k size : ℕ) (says : Says) → stepOf o s c .item ≡ gives (chunk p k size says) → (k ≡ code) × (size ≡ length (bodyOf float o time xs))
@@ -142,7 +137,7 @@ module _ (float : Bool) (o : Order) (s : List ℕ) (c : Cursor) (code : ℕ) (ti
       (countOf float o s c channel (length out) ≡ gives (numbers l))
       × (leftBy float o s c channel out ≡ frontFilled (valuesOf (λ k. getD xs k (none float)) l) out)
   filled-back channel out l e r =
-      let n : countOf float o s c channel (length out) ≡ gives (numbers l) = count-by float o s c channel (length out) l e r in
+      let n : countOf float o s c channel (length out) ≡ gives (numbers l) = count-given float o s c channel (length out) l e r in
       (n, copied-back channel out ∙ rw (n, e))
 
   -- and where they are pairs, pair j is its I, then its Q

@@ -13,8 +13,8 @@ use Rattle.frame.specs.declared.Ahead.the-variants.{Chunk}
 use Rattle.frame.proofs.Looks.{is-chunk, other-told}
 use Rattle.effect.specs.Ready.{readyData}
 use Rattle.state.specs.Good.{goodState}
-use Rattle.reader.specs.Step.{stepBy, stepOf, accepts}
-use Rattle.reader.proofs.Laws.{unfit, step-past, step-unfit, step-ahead, chunk-ends}
+use Rattle.reader.specs.Step.{stepBy, stepOf, accepts, unfit}
+use Rattle.reader.proofs.Laws.{step-past, step-unfit, step-ahead, chunk-ends}
 use Rattle.samples.specs.Copy.{layoutAt, samplesAt}
 use Rattle.samples.proofs.Asked.{given-lies, none-lies}
 use Rattle.samples.proofs.AtCursor.{effectIn}

@@ -8,8 +8,8 @@ use Rattle.frame.specs.Place.{shows}
 use Rattle.frame.specs.declared.At.the-variants.{Complete}
 use Rattle.frame.proofs.Looks.{is-chunk}
 use Rattle.state.specs.Good.{goodState}
-use Rattle.reader.specs.Step.{stepBy, stepOf}
-use Rattle.reader.proofs.Laws.{unfit, step-past, step-unfit, step-ahead, still-is-step, chunk-ends, chunk-body, chunk-size}
+use Rattle.reader.specs.Step.{stepBy, stepOf, unfit}
+use Rattle.reader.proofs.Laws.{step-past, step-unfit, step-ahead, still-is-step, chunk-ends, chunk-body, chunk-size}
 use borrow.Author.Needs.{needs}
 use Rattle.reader.proofs.Cursor.go_on.Statement.{statement}
 use Rattle.reader.proofs.Cursor.go_on.Tie as tie
