@@ -17,7 +17,7 @@ use Rattle.num.specs.declared.Order.{Order}
 use Rattle.num.specs.declared.Order.the-variants.{Big, Little}
 use Rattle.body.specs.Kind.{kindOf}
 use Rattle.body.specs.declared.faults.Fault.the-variants as faults
-use Rattle.effect.specs.Says.{verdictSaid}
+use Rattle.effect.specs.Says.{Says, verdictSaid}
 use Rattle.effect.specs.declared.Lack.the-variants as lacks
 use Rattle.effect.specs.declared.Verdict.{Verdict}
 use Rattle.effect.specs.declared.Verdict.the-variants.{Good, Unknown, Malformed, NotCovered, Waits, Ready}
@@ -49,8 +49,8 @@ decimal-length (suc k) n h =
     let l = length-by (suc k) n (ltb n 10) refl (λ (m : 9 < n). let d = decimal-length k (n / 10) t in omega arith) in
     omega arith
 
-word-length : (n : ℕ) → n < 2 ^ 64 → length (numberWord n) ≤ 21
-word-length n h = let d = decimal-length 19 n (omega arith) in omega arith
+word-length : (k n : ℕ) → n < 10 ^ (k + 1) → length (numberWord n) ≤ k + 2
+word-length k n h = let d = decimal-length k n h in omega arith
 
 pub hex-length : (k n : ℕ) → length (hexDigits k n) ≡ k
 unfolding hexDigits
@@ -77,25 +77,27 @@ verdict-length (Waits lacks.Rate t) = omega arith
 verdict-length (Waits lacks.Scale t) = omega arith
 verdict-length (Ready d) = omega arith
 
-count-length : (head : List ℕ) (n : ℕ) → n < 2 ^ 64 → length (countLine head n) ≤ length head + 22
-unfolding countLine
-count-length head n h = let l = word-length n h in simp length-append (omega arith)
+-- the length of a line whose numbers have at most k + 1 digits
+module _ (k : ℕ) where
+  pub count-length : (head : List ℕ) (n : ℕ) → n < 10 ^ (k + 1) → length (countLine head n) ≤ length head + k + 3
+  unfolding countLine
+  count-length head n h = let l = word-length k n h in simp length-append (omega arith)
 
-stretch-length : (head : List ℕ) (p n : ℕ) → p < 2 ^ 64 → n < 2 ^ 64 → length (stretchLine head p n) ≤ length head + 43
-unfolding stretchLine
-stretch-length head p n h k =
-    let l = word-length p h in
-    let m = word-length n k in
-    simp length-append (omega arith)
+  pub stretch-length : (head : List ℕ) (p n : ℕ) → p < 10 ^ (k + 1) → n < 10 ^ (k + 1) → length (stretchLine head p n) ≤ length head + k + k + 5
+  unfolding stretchLine
+  stretch-length head p n h j =
+      let l = word-length k p h in
+      let m = word-length k n j in
+      simp length-append (omega arith)
 
-chunk-length : (p code size : ℕ) (v : Verdict) → p < 2 ^ 64 → size < 2 ^ 64 → length (chunkLine p code size (verdictSaid v)) ≤ 65
-unfolding chunkLine
-chunk-length p code size v h k =
-    let l = word-length p h in
-    let m = word-length size k in
-    let n = name-by (isKnown (kindOf code)) code in
-    let j = verdict-length v in
-    simp length-append (omega arith)
+  pub chunk-length : (p code size : ℕ) (says : Says) → p < 10 ^ (k + 1) → size < 10 ^ (k + 1) → length (verdictWord says) ≤ 8 →
+      length (chunkLine p code size says) ≤ k + k + 27
+  unfolding chunkLine
+  chunk-length p code size says h j v =
+      let l = word-length k p h in
+      let m = word-length k size j in
+      let n = name-by (isKnown (kindOf code)) code in
+      simp length-append (omega arith)
 
 -- a text of at most 96 bytes shows them all
 pub shows-all : (l : List ℕ) → length l ≤ 96 → shown (textOf l) ≡ l
@@ -119,22 +121,22 @@ pub item-shown : (i : Item) → Sized i → shown (textOf (answerLine (itemSaid 
 item-shown PastEnd h = shows-all [] (omega arith)
 item-shown BadState h = shows-all [] (omega arith)
 item-shown End h = shows-all [] (omega arith)
-item-shown (Skipped p n) h = shows-all _ (omega (arith, stretch-length (0x73 ∷ 0x6B ∷ 0x69 ∷ 0x70 ∷ []) p n (h .0) (h .1)))
-item-shown (Unfinished p n) h = shows-all _ (omega (arith, stretch-length (0x63 ∷ 0x75 ∷ 0x74 ∷ []) p n (h .0) (h .1)))
-item-shown (Chunk p code size v) h = shows-all _ (omega (arith, chunk-length p code size v (h .0) (h .1)))
+item-shown (Skipped p n) h = shows-all _ (omega (arith, stretch-length 19 (0x73 ∷ 0x6B ∷ 0x69 ∷ 0x70 ∷ []) p n (omega (arith, h .0)) (omega (arith, h .1))))
+item-shown (Unfinished p n) h = shows-all _ (omega (arith, stretch-length 19 (0x63 ∷ 0x75 ∷ 0x74 ∷ []) p n (omega (arith, h .0)) (omega (arith, h .1))))
+item-shown (Chunk p code size v) h = shows-all _ (omega (arith, chunk-length 19 p code size (verdictSaid v) (omega (arith, h .0)) (omega (arith, h .1)) (verdict-length v)))
 
 -- and so do those of the first and of the last line
 pub first-shown : (o : Order) (n : ℕ) → n < 2 ^ 64 → shown (textOf (firstLine o n)) ≡ firstLine o n
-first-shown Big n h = shows-all _ (omega (arith, count-length (0x70 ∷ 0x78 ∷ 0x67 ∷ 0x66 ∷ 0x20 ∷ 0x62 ∷ 0x69 ∷ 0x67 ∷ []) n h))
-first-shown Little n h = shows-all _ (omega (arith, count-length (0x70 ∷ 0x78 ∷ 0x67 ∷ 0x66 ∷ 0x20 ∷ 0x6C ∷ 0x69 ∷ 0x74 ∷ 0x74 ∷ 0x6C ∷ 0x65 ∷ []) n h))
+first-shown Big n h = shows-all _ (omega (arith, count-length 19 (0x70 ∷ 0x78 ∷ 0x67 ∷ 0x66 ∷ 0x20 ∷ 0x62 ∷ 0x69 ∷ 0x67 ∷ []) n (omega arith)))
+first-shown Little n h = shows-all _ (omega (arith, count-length 19 (0x70 ∷ 0x78 ∷ 0x67 ∷ 0x66 ∷ 0x20 ∷ 0x6C ∷ 0x69 ∷ 0x74 ∷ 0x74 ∷ 0x6C ∷ 0x65 ∷ []) n (omega arith)))
 
 pub last-shown : (n : ℕ) → n < 2 ^ 64 → shown (textOf (lastLine n)) ≡ lastLine n
-last-shown n h = shows-all _ (omega (arith, count-length (0x65 ∷ 0x6E ∷ 0x64 ∷ []) n h))
+last-shown n h = shows-all _ (omega (arith, count-length 19 (0x65 ∷ 0x6E ∷ 0x64 ∷ []) n (omega arith)))
 
 -- and those of the words of a dump
 pub integer-shown : (z : ℤ) → SFits w64 z → shown (textOf (integerWord z)) ≡ integerWord z
-integer-shown (pos n) f = shows-all _ (omega (arith, f .sfits, word-length n (omega (arith, f .sfits))))
-integer-shown (negsuc n) f = shows-all _ (omega (arith, f .sfits, word-length (suc n) (omega (arith, f .sfits))))
+integer-shown (pos n) f = shows-all _ (omega (arith, f .sfits, word-length 19 n (omega (arith, f .sfits))))
+integer-shown (negsuc n) f = shows-all _ (omega (arith, f .sfits, word-length 19 (suc n) (omega (arith, f .sfits))))
 
 pub hex-shown : (n : ℕ) → shown (textOf (hexWord n)) ≡ hexWord n
 hex-shown n = shows-all _ (omega (arith, hex-length 8 n))

@@ -1,0 +1,53 @@
+-- How long a listing is at most.
+use Prim.Native.Nat.{ℕ, zero, suc, _+_, _*_, _≤_, _<_}
+use mathlib.Core.Path.{_≡_, refl, ap}
+use mathlib.Core.Bool.{Bool, true, false}
+use mathlib.Core.List.{List, [], _++_}
+use native.Mathlib.Omega.{arith}
+use lib.Dec.{ltb}
+use lib.ListN.{length, length-append, length-map}
+use borrow.Author.Tests.{ltb-true, ltb-false}
+use Rattle.num.specs.declared.Order.{Order}
+use Rattle.reader.specs.Items.{Given, items}
+use Rattle.reader.specs.Step.{newCursor, stepOf}
+use Rattle.reader.specs.declared.Cursor.{Cursor}
+use Rattle.reader.proofs.Theorems.{Fit, new-fit, step-keeps-fit, ahead, goes}
+use Rattle.listing.specs.Lines.{firstLine, lastLine, answerLine, itemLines, listing}
+use Rattle.lister.specs.Listed.{itemsOf}
+use Rattle.lister.proofs.Lengths.{first-length, last-length, line-length}
+use Rattle.lister.proofs.Laws.{linesOf, linesAhead, count-next, line-next, none-ahead}
+use Rattle.lister.proofs.Rows.{items-few}
+
+module _ (o : Order) (s : List ℕ) (m : length s < 100000) where
+  -- the lines ahead of a cursor have at most 35 bytes each
+  Short : Cursor → Type 0
+  Short c = length (linesAhead o s c) ≤ 35 * length (ahead o s c)
+
+  short-by : (f : ℕ) (c : Cursor) (b : Bool) → ltb (c .place) (length s) ≡ b → Fit c → c .place ≤ length s → length s < c .place + suc f →
+      ((d : Cursor) → Fit d → d .place ≤ length s → length s < d .place + f → Short d) → Short c
+  unfolding Short
+  short-by f c true e k h n r =
+      let q = ltb-true (c .place) (length s) e in
+      let g = goes o s c k q in
+      let d = stepOf o s c .cursor in
+      let i = r d (step-keeps-fit o s c k) (g .within) (omega (arith, g .on)) in
+      let w = line-length o s c m h k in
+      let j = ap length (line-next o s c q k) in
+      omega (arith, count-next o s c q k, length-append (answerLine (stepOf o s c .item)) (linesAhead o s d))
+  short-by f c false e k h n r =
+      let z = none-ahead o s c (ltb-false (c .place) (length s) e) in
+      omega (arith, ap (λ (gs : List Given). length (linesOf gs)) z)
+
+  short : (f : ℕ) (c : Cursor) → Fit c → c .place ≤ length s → length s < c .place + f → Short c
+  short zero c k h n = absurd (omega arith)
+  short (suc f) c k h n = short-by f c (ltb (c .place) (length s)) refl k h n (λ d. short f d)
+
+  -- the lines of the items have at most 35 bytes each
+  pub lines-length : length (itemLines (itemsOf o s)) ≤ 35 * length (items o s)
+  unfolding Short
+  lines-length = short (suc (length s)) newCursor new-fit (omega arith) (omega arith)
+
+-- there is a line for each item
+module _ (o : Order) (s : List ℕ) where
+  pub items-many : length (itemsOf o s) ≡ length (items o s)
+  items-many = length-map (items o s) (λ (g : Given). g .item)

@@ -1,0 +1,5 @@
+pub mod Lengths
+pub mod Rows
+pub mod Laws
+pub mod Bound
+pub mod Cases

@@ -1,0 +1,2 @@
+-- What only the promises of private functions use.
+pub mod Laid
