@@ -13,7 +13,7 @@ use Rattle.reader.specs.Step.{newCursor, stepOf}
 use Rattle.reader.specs.declared.Cursor.{Cursor}
 use Rattle.reader.proofs.Theorems.{Fit, new-fit, step-keeps-fit, ahead, goes}
 use Rattle.listing.specs.Lines.{firstLine, lastLine, answerLine, itemLines, listing}
-use Rattle.lister.specs.Listed.{itemsOf}
+use Rattle.lister.specs.Listed.{most, longest, itemsOf}
 use Rattle.lister.proofs.Lengths.{first-length, last-length, line-length}
 use Rattle.lister.proofs.Laws.{linesOf, linesAhead, count-next, line-next, none-ahead}
 use Rattle.lister.proofs.Rows.{items-few}
@@ -51,3 +51,17 @@ module _ (o : Order) (s : List ℕ) (m : length s < 100000) where
 module _ (o : Order) (s : List ℕ) where
   pub items-many : length (itemsOf o s) ≡ length (items o s)
   items-many = length-map (items o s) (λ (g : Given). g .item)
+
+-- the whole listing of a stream that is not too long
+pub listing-length : (o : Order) (s : List ℕ) → length s ≤ most → length (listing o (length s) (itemsOf o s)) ≤ longest
+listing-length o s h =
+    let n = length (itemsOf o s) in
+    let k : 6 * n ≤ length s + 12 = rw (items-many o s) (items-few o s) in
+    let l : length (itemLines (itemsOf o s)) ≤ 35 * n = rw (items-many o s) (lines-length o s (omega arith)) in
+    omega (
+      arith,
+      first-length o (length s) (omega arith),
+      last-length n (omega arith),
+      length-append (firstLine o (length s) ++ itemLines (itemsOf o s)) (lastLine n),
+      length-append (firstLine o (length s)) (itemLines (itemsOf o s)),
+    )

@@ -3,3 +3,5 @@ pub mod Rows
 pub mod Laws
 pub mod Bound
 pub mod Cases
+pub mod Theorems
+pub mod Promises

@@ -87,6 +87,14 @@ fn whole(s: &[u8], out: &mut [u8]) -> usize
     }
 }
 
+// How many bytes the listing of a stream has: its lines are laid where none fits.
+fn measure(s: &[u8]) -> usize
+    ensures { λ r. ⌜ r ≡ length (listed (now (s .entry))) ⌝ }
+{
+    let mut none = [0u8; 1];
+    whole(s, &mut none)
+}
+
 // Lays the listing of a stream at the front of out and answers Laid with its length; the rest of out is as it was. Of a
 // stream with more than 65,536 bytes the listing is the line `long`, and of one without a sync word `none`. Where out
 // is shorter than the listing, the answer is Needs with the listing's length, and out is as it was.
@@ -94,18 +102,10 @@ pub fn lay(s: &[u8], out: &mut [u8]) -> Listed
     ensures said { λ r. ⌜ r ≡ laidIn (length (listed (now (s .entry)))) (length (now (out .entry))) ⌝ }
     ensures left { λ _. ⌜ now (out .exit) ≡ overlaid (now (out .entry)) 0 (listed (now (s .entry))) ⌝ }
 {
-    let n = length(s);
+    let n = measure(s);
     if out.len() < n {
         return Listed::Needs(n);
     }
     whole(s, out);
     Listed::Laid(n)
-}
-
-// How many bytes the listing of a stream has: its lines are laid where none fits, and only their lengths count.
-fn length(s: &[u8]) -> usize
-    ensures { λ r. ⌜ r ≡ length (listed (now (s .entry))) ⌝ }
-{
-    let mut none = [0u8; 1];
-    whole(s, &mut none)
 }

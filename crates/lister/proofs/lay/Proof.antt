@@ -5,14 +5,14 @@ use Rattle.lister.proofs.Laws.{no-room, has-room}
 use Rattle.lister.proofs.lay.Statement.{statement}
 use Rattle.lister.proofs.lay.Tie as tie
 
-length-requires : tie.Need-length-requires
-length-requires c κs = search needs
+measure-requires : tie.Need-measure-requires
+measure-requires c κs = search needs
 
 returns : tie.Need-returns
 returns c =
     let l = c .before in
     let a = l .before .before .before .args in
-    no-room (a .out .now) (listed (a .s .now)) (l .length .result) (l .length .ensures) (c .if1 .taken)
+    no-room (a .out .now) (listed (a .s .now)) (l .measure .result) (l .measure .ensures) (c .if1 .taken)
 
 whole-requires : tie.Need-whole-requires
 whole-requires c κs = search needs
@@ -26,7 +26,7 @@ returns-2 c =
     let i = w .before .before in
     let l = i .before in
     let a = l .before .before .before .args in
-    has-room (a .out .now) (listed (a .s .now)) (l .length .result) (l .length .ensures) _ (i .if1 .left) (w .whole .ensures .1)
+    has-room (a .out .now) (listed (a .s .now)) (l .measure .result) (l .measure .ensures) _ (i .if1 .left) (w .whole .ensures .1)
 
 pub lay-spec : {M : Type 1} → statement M
-lay-spec = tie.close (tie.spec length-requires returns whole-requires same-length returns-2)
+lay-spec = tie.close (tie.spec measure-requires returns whole-requires same-length returns-2)
