@@ -83,7 +83,7 @@ overlaid-by d at vs true e = length-splice d at vs (leb-true (at + length vs) (l
 overlaid-by d at vs false e = refl
 
 -- a slice has as many bytes as before
-overlaid-length : (d : List ℕ) (at : ℕ) (vs : List ℕ) → length (overlaid d at vs) ≡ length d
+pub overlaid-length : (d : List ℕ) (at : ℕ) (vs : List ℕ) → length (overlaid d at vs) ≡ length d
 overlaid-length d at vs = overlaid-by d at vs (leb (at + length vs) (length d)) refl
 
 -- ---- the lines ahead of a cursor

@@ -16,9 +16,12 @@ use Rattle.frame.specs.Place.{syncBytes, starts, orderOf}
 use Rattle.frame.proofs.Laws.{starts-short, sync-length}
 use Rattle.frame.proofs.Theorems.{NoneBelow, order-lowest, order-refused}
 use Rattle.reader.specs.Item.{Item}
+use Rattle.lay.specs.Splice.{overlaid}
 use Rattle.listing.specs.Lines.{countLine, longLine, noneLine, listing}
 use Rattle.lister.specs.Listed.{most, longest, itemsOf, listed, laidIn}
+use Rattle.lister.specs.declared.Listed.{Listed}
 use Rattle.lister.specs.declared.Listed.the-variants.{Laid, Needs}
+use Rattle.lister.proofs.Laws.{overlaid-length}
 use Rattle.lister.proofs.Bound.{listing-length}
 use Rattle.lister.proofs.Cases.{listed-long, listed-none, listed-by}
 
@@ -89,3 +92,9 @@ module _ (n room k : ℕ) where
 
   pub needs-told : laidIn n room ≡ Needs k → (k ≡ n) × (room < n)
   needs-told e = needs-by (leb n room) refl e
+
+-- Laid with a number says that the slice, as the call leaves it, has at least so many bytes.
+pub laid-within : (d e vs : List ℕ) (r : Listed) (k : ℕ) → r ≡ laidIn (length vs) (length d) → e ≡ overlaid d 0 vs → r ≡ Laid k → k ≤ length e
+laid-within d e vs r k p q h =
+    let t = laid-told (length vs) (length d) k (sym p ∙ h) in
+    omega (arith, t .0, t .1, ap length q, overlaid-length d 0 vs)
