@@ -18,6 +18,7 @@ pub mod Listing
 pub mod Answers
 pub mod Typed
 pub mod Marked
+pub mod Lister
 pub mod Empty
 pub mod Bench
 pub mod Allowed

@@ -16,7 +16,7 @@ fn written_and_read(out: &mut [u8]) {
 // Exactly the bytes that were written.
 fn read_back(s: &[u8], end: usize) {
     if end <= s.len() {
-        show::stream(&s[0..end], true);
+        show::dump(&s[0..end]);
     }
 }
 

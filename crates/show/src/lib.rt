@@ -1,5 +1,4 @@
-// The listing and the dump of a stream, written to standard output: each line, or word of a line, as the crate listing
-// makes it.
+// The dump of a stream, written to standard output: each line, or word of a line, as the crate listing makes it.
 mod channels;
 mod chunk;
 mod line;
@@ -14,12 +13,6 @@ pub use numbers::print_patterns;
 pub use numbers::print_shorts;
 use reader::Cursor;
 
-// The most bytes that are listed.
-pub const MOST: usize = 65536;
-
-// Room for one byte more, which tells a recording that is too long.
-pub const ROOM: usize = 65537;
-
 // The first n bytes of s.
 fn write(s: &[u8], n: usize) {
     if n <= s.len() {
@@ -33,20 +26,20 @@ pub fn print(t: Text) {
     write(&bytes, t.len);
 }
 
-// Writes the listing of a stream to standard output; in a dump also, under a chunk's line, what the chunk shows.
-pub fn stream(s: &[u8], dump: bool) {
-    if MOST < s.len() {
+// Writes the dump of a stream to standard output: its listing, with what each chunk shows under the chunk's line.
+pub fn dump(s: &[u8]) {
+    if lister::MOST < s.len() {
         print(listing::long_line());
         return;
     }
     match frame::find_order(s) {
-        OrderFound::Is(order) => ordered(order, s, dump),
+        OrderFound::Is(order) => ordered(order, s),
         OrderFound::Neither => print(listing::none_line()),
     }
 }
 
 // The first line, a line for each item, and the last line with their number.
-fn ordered(order: Order, s: &[u8], dump: bool) {
+fn ordered(order: Order, s: &[u8]) {
     print(listing::first_line(order, s.len()));
     let items = reader::count(order, s);
     let mut cursor = Cursor::new();
@@ -54,9 +47,7 @@ fn ordered(order: Order, s: &[u8], dump: bool) {
         let stepped = cursor.step(order, s);
         let item = stepped.item;
         print(listing::item_line(item));
-        if dump {
-            chunk::shown(order, s, stepped);
-        }
+        chunk::shown(order, s, stepped);
         let next = stepped.cursor;
         cursor = next;
     }

@@ -20,7 +20,7 @@ fn next(fd: i32) -> usize {
 
 // All trials of one stream.
 fn trial(s: &[u8]) {
-    show::stream(s, true);
+    show::dump(s);
     check::both(s);
     copies::both(s);
     writes::both(s);
@@ -53,7 +53,7 @@ fn tried(buf: &[u8], n: usize) {
 
 // The streams one after the other.
 fn streams(fd: i32) {
-    let mut buf = [0u8; show::ROOM];
+    let mut buf = [0u8; lister::STREAM_ROOM];
     let count = next(fd);
     for _ in 0..count {
         let n = taken(fd, &mut buf);

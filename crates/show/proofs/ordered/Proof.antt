@@ -5,10 +5,10 @@ use Rattle.show.proofs.ordered.Statement.{statement}
 use Rattle.show.proofs.ordered.Tie as tie
 
 abbrev Inv-loop : tie.InvT-loop
-Inv-loop order s dump items cursor₀ counter₀ cursor counter = counter ≤ items
+Inv-loop order s items cursor₀ counter₀ cursor counter = counter ≤ items
 
 abbrev μ-loop : tie.MeasureT-loop
-μ-loop order s dump items cursor₀ counter₀ cursor counter = items - counter
+μ-loop order s items cursor₀ counter₀ cursor counter = items - counter
 
 first-line-requires : tie.Need-first-line-requires Inv-loop μ-loop
 first-line-requires c κs = search needs
