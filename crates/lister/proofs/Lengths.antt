@@ -1,11 +1,10 @@
 -- How long the lines of a listing are, where no place and no size has more than five digits.
-use Prim.Native.Nat.{ℕ, _+_, _≤_, _<_}
+use Prim.Native.Nat.{ℕ, _≤_, _<_}
 use mathlib.Core.Path.{_≡_, refl}
 use mathlib.Core.Bool.{Bool, true, false}
 use mathlib.Core.List.{List, [], _∷_}
 use native.Mathlib.Omega.{arith}
 use lib.Dec.{ltb}
-use lib.IntN.{ℤ}
 use lib.ListN.{length, take, drop, length-drop}
 use Rattle.num.specs.Answer.{Answer, gives, refuses}
 use Rattle.num.specs.Choice.{pick}
@@ -38,7 +37,6 @@ use Rattle.reader.specs.Step.{before, stepBy, stepOf}
 use Rattle.reader.specs.declared.Cursor.{Cursor}
 use Rattle.reader.proofs.Laws.{step-ahead, chunk-ends}
 use Rattle.reader.proofs.Theorems.{Fit}
-use Rattle.listing.specs.Digits.{decimal, decimalBy}
 use Rattle.listing.specs.Lines.{verdictWord, firstLine, lastLine, orderHead, answerLine}
 use Rattle.listing.proofs.Shown.{decimal-length, count-length, stretch-length, chunk-length}
 

@@ -1,6 +1,6 @@
 -- How many items a stream has: a chunk takes twelve bytes at least, and no skipped stretch follows another.
-use Prim.Native.Nat.{ℕ, zero, suc, _+_, _-_, _*_, _≤_, _<_}
-use mathlib.Core.Path.{_≡_, refl, _∙_}
+use Prim.Native.Nat.{ℕ, zero, suc, _+_, _-_, _*_, _≤_}
+use mathlib.Core.Path.{_≡_, refl}
 use mathlib.Core.Bool.{Bool, true, false}
 use mathlib.Core.List.{List, [], _∷_}
 use native.Mathlib.Omega.{arith}
@@ -19,7 +19,7 @@ use Rattle.reader.specs.Items.{items}
 use Rattle.reader.proofs.Theorems.{items-length}
 
 module _ (o : Order) where
-  -- how many frames n some bytes may have: none where there is no byte, and fewer where a search would stop at the first
+  -- how many frames some bytes may have: none where there is no byte, and one fewer where a search stops at the first byte
   record Rows (l : List ℕ) (n : ℕ) : Type 0 where
     none : length l ≡ 0 → n ≡ 0
     most : 6 * n ≤ length l + 12

@@ -4,7 +4,6 @@ use mathlib.Core.Path.{_≡_, ap, sym, _∙_}
 use native.Mathlib.Omega.{arith}
 use borrow.Author.Needs.{needs}
 use lib.ListN.{length}
-use Rattle.reader.specs.Items.{items}
 use Rattle.listing.specs.Lines.{firstLine, lastLine, itemLines}
 use Rattle.listing.specs.Text.{shown, textOf}
 use Rattle.lister.specs.Listed.{itemsOf}
