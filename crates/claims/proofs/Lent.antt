@@ -4,6 +4,7 @@ use mathlib.Core.Path.{_≡_, refl, ap, sym, _∙_}
 use mathlib.Core.Bool.{Bool, true, false, not}
 use native.Mathlib.Omega.{arith}
 use borrow.Author.Tests.{not-true}
+use lib.ListN.{length}
 use Rattle.num.specs.Answer.{Answer, gives, refuses}
 use Rattle.copy.proofs.pattern_pairs.Reads as pattern_pairs
 use Rattle.copy.proofs.pattern_reals.Reads as pattern_reals
@@ -13,6 +14,12 @@ use Rattle.lay.proofs.bytes.Reads as bytes
 use Rattle.lay.proofs.runs.longs.Reads as longs
 use Rattle.lay.proofs.runs.shorts.Reads as shorts
 use Rattle.lay.proofs.runs.words.Reads as words
+use Rattle.lister.specs.Listed.{listed}
+use Rattle.lister.specs.declared.Listed.{Listed}
+use Rattle.lister.specs.declared.Listed.the-variants.{Laid, Needs}
+use Rattle.lister.proofs.Theorems.{needs-told}
+use Rattle.lister.proofs.Promises.{lay-no-room}
+use Rattle.lister.proofs.lay.Reads as listing
 use Rattle.samples.specs.Copy.{copiedSaid}
 use Rattle.samples.proofs.patterns.patterns_at.Reads as patterns_at
 use Rattle.samples.proofs.patterns.patterns_of.Reads as patterns_of
@@ -46,11 +53,16 @@ abbrev pub isRefusal : {A : Type 0} → Answer A → Bool
 isRefusal (gives a) = false
 isRefusal (refuses n) = true
 
+-- a listing has no room
+abbrev pub isNeed : Listed → Bool
+isNeed (Laid n) = false
+isNeed (Needs n) = true
+
 -- whatever meets a promise with an answer that refuses leaves in the slice what it held
 abbrev pub Leaves : {K B : Type 0} {A R S : K → Type 0} → ((κs : K) → A κs → R κs → S κs → Type 0) → ((κs : K) → R κs → Bool) → ((κs : K) → A κs → B) → ((κs : K) → S κs → B) → Type 0
 Leaves {K} {B} {A} {R} {S} Post refused held left = (κs : K) (a : A κs) (r : R κs) (s : S κs) → Post κs a r s → refused κs r ≡ true → left κs s ≡ held κs a
 
--- the calls that are lent a slice to fill, by crate: lay, copy, samples, writer, typed
+-- the calls that are lent a slice to fill, by crate: lay, copy, samples, writer, typed, lister
 pub data Lent : Type 0 where
   layBytes : Lent
   layShorts : Lent
@@ -85,8 +97,9 @@ pub data Lent : Type 0 where
   writeGcf : Lent
   writeGrg : Lent
   writeText : Lent
+  layListing : Lent
 
--- a refusal is false in lay and copy, and elsewhere an answer that has a number
+-- a refusal is false in lay and copy, what a listing needs in lister, and elsewhere an answer that has a number
 abbrev pub LeavesLent : Lent → Type 0
 LeavesLent layBytes = Leaves bytes.Post (λ κs r. not r) (λ κs a. a .1 .0 .now) (λ κs s. s .1 .0 .now)
 LeavesLent layShorts = Leaves shorts.Post (λ κs r. not r) (λ κs a. a .1 .1 .0 .now) (λ κs s. s .1 .1 .0 .now)
@@ -121,6 +134,7 @@ LeavesLent writeGiqp = Leaves giqp.Post (λ κs r. isRefusal (writtenSaid r)) (�
 LeavesLent writeGcf = Leaves gcf.Post (λ κs r. isRefusal (writtenSaid r)) (λ κs a. a .1 .1 .0 .now) (λ κs s. s .1 .1 .0 .now)
 LeavesLent writeGrg = Leaves grg.Post (λ κs r. isRefusal (writtenSaid r)) (λ κs a. a .1 .1 .0 .now) (λ κs s. s .1 .1 .0 .now)
 LeavesLent writeText = Leaves text.Post (λ κs r. isRefusal (writtenSaid r)) (λ κs a. a .1 .1 .0 .now) (λ κs s. s .1 .1 .0 .now)
+LeavesLent layListing = Leaves listing.Post (λ κs r. isNeed r) (λ κs a. a .1 .0 .now) (λ κs s. s .1 .0 .now)
 
 -- ---- by what a call answers
 
@@ -131,6 +145,10 @@ refuses-by (refuses n) k = (n, refl)
 -- the rule refuses where the answer does
 rule-refuses : {A : Type 0} {a : Answer A} (w : Answer A) → a ≡ w → isRefusal a ≡ true → (n : ℕ) × (w ≡ refuses n)
 rule-refuses w e k = refuses-by w (ap isRefusal (sym e) ∙ k)
+
+needs-by : (r : Listed) → isNeed r ≡ true → (n : ℕ) × (r ≡ Needs n)
+needs-by (Laid n) k = let z : _≡_ {A = ℕ} 0 1 = cc in absurd (omega arith)
+needs-by (Needs n) k = (n, refl)
 
 -- A call that refuses leaves the slice as it was, for each of them.
 pub refused-leaves : (f : Lent) → LeavesLent f
@@ -167,3 +185,6 @@ refused-leaves writeGiqp = λ κs a r s p k. rw (rule-refuses _ (p .0) k .1) at 
 refused-leaves writeGcf = λ κs a r s p k. rw (rule-refuses _ (p .0) k .1) at (p .1)
 refused-leaves writeGrg = λ κs a r s p k. rw (rule-refuses _ (p .0) k .1) at (p .1)
 refused-leaves writeText = λ κs a r s p k. rw (rule-refuses _ (p .0) k .1) at (p .1)
+refused-leaves layListing = λ κs a r s p k.
+    let w = needs-by r k in
+    lay-no-room κs a r s p (needs-told (length (listed (a .0 .now))) (length (a .1 .0 .now)) (w .0) (sym (p .0) ∙ w .1) .1) .1

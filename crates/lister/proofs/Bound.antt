@@ -9,9 +9,9 @@ use lib.ListN.{length, length-append, length-map}
 use borrow.Author.Tests.{ltb-true, ltb-false}
 use Rattle.num.specs.declared.Order.{Order}
 use Rattle.reader.specs.Items.{Given, items}
-use Rattle.reader.specs.Step.{newCursor, stepOf}
+use Rattle.reader.specs.Step.{newCursor, stepOf, Fit}
 use Rattle.reader.specs.declared.Cursor.{Cursor}
-use Rattle.reader.proofs.Theorems.{Fit, new-fit, step-keeps-fit, ahead, goes}
+use Rattle.reader.proofs.Theorems.{new-fit, step-keeps-fit, ahead, goes}
 use Rattle.listing.specs.Lines.{firstLine, lastLine, answerLine, itemLines, listing}
 use Rattle.lister.specs.Listed.{most, longest, itemsOf}
 use Rattle.lister.proofs.Lengths.{first-length, last-length, line-length}

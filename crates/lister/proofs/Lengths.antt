@@ -33,10 +33,9 @@ use Rattle.effect.specs.Says.{Says, ok, bad, waits, ready, judged, saysNumber}
 use Rattle.effect.specs.Says as Says
 use Rattle.effect.specs.Ready.{dataSays, covering, saysOf}
 use Rattle.effect.specs.Effect.{effectBy, effect}
-use Rattle.reader.specs.Step.{before, stepBy, stepOf}
+use Rattle.reader.specs.Step.{before, stepBy, stepOf, Fit}
 use Rattle.reader.specs.declared.Cursor.{Cursor}
 use Rattle.reader.proofs.Laws.{step-ahead, chunk-ends}
-use Rattle.reader.proofs.Theorems.{Fit}
 use Rattle.listing.specs.Lines.{verdictWord, firstLine, lastLine, orderHead, answerLine}
 use Rattle.listing.proofs.Shown.{decimal-length, count-length, stretch-length, chunk-length}
 
