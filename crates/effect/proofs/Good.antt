@@ -15,8 +15,8 @@ use Rattle.num.specs.Number.{unsignedAt}
 use Rattle.num.specs.declared.Order.{Order}
 use Rattle.num.proofs.Tests.{both-true, each-at}
 use Rattle.body.specs.Check.{int32, int64, allowed, orElse}
-use Rattle.body.specs.Numbers.{siqp, sr, bw, cf, bwof}
-use Rattle.body.specs.Levels.{isFinite, finite32, dbfs, dbtg, ffs}
+use Rattle.body.specs.Numbers.{siqp, sr, bw, bwof}
+use Rattle.body.specs.Levels.{isFinite, finite32, ffs}
 use Rattle.body.specs.Lists.{sixteen}
 use Rattle.body.specs.Table.{Slot, Value, none, Row, sets, marks, leaves, samples, unknown, row}
 use Rattle.body.specs.Values.{amount}

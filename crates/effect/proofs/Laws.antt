@@ -18,7 +18,6 @@ use Rattle.body.specs.declared.sampled.Shaped.the-variants.{NoSamples}
 use Rattle.body.specs.Values.{noNumber, noBand, number, centred}
 use Rattle.body.specs.declared.kinds.Kind.{Kind}
 use Rattle.body.specs.declared.values.Held.{Held}
-use Rattle.body.specs.declared.values.BandHeld.{BandHeld}
 use Rattle.state.specs.State.{setIn, withValues}
 use Rattle.state.specs.declared.State.{State}
 use Rattle.effect.specs.Says.{Says, verdictSaid, judged}

@@ -1,7 +1,7 @@
 -- Which kind sets what: a chunk leaves every slot but its own, and what it leaves there depends on the order and the body alone.
 use Prim.Native.Nat.{ℕ}
 use mathlib.Core.Path.{_≡_, refl}
-use mathlib.Core.Bool.{Bool, true, false}
+use mathlib.Core.Bool.{true, false}
 use mathlib.Core.List.{List}
 use native.Mathlib.Omega.{arith}
 use Rattle.num.specs.declared.Order.{Order}

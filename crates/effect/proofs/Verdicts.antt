@@ -1,7 +1,7 @@
 -- The reader's verdict and the writer's: what is said of an accepted chunk is a number of 11 to 15 exactly where the table's verdict
 -- on its body refuses it with that number.
 use Prim.Native.Nat.{ℕ, _≤_}
-use mathlib.Core.Path.{_≡_, refl, ap, _∙_}
+use mathlib.Core.Path.{_≡_, ap}
 use mathlib.Core.Bool.{Bool, true, false}
 use mathlib.Core.List.{List}
 use mathlib.Core.Logic.{_↔_}

@@ -1,14 +1,14 @@
 -- Laws of what is ahead: what each case says of the place, and what stands at the place says of it.
 use Prim.Native.Nat.{ℕ, _<_}
-use mathlib.Core.Path.{_≡_, refl, ap, sym, _∙_}
-use mathlib.Core.Bool.{Bool, true, false}
+use mathlib.Core.Path.{_≡_, refl}
+use mathlib.Core.Bool.{false}
 use mathlib.Core.List.{List, [], _∷_}
 use native.Mathlib.Omega.{arith}
 use denote.Enum.Declared.{tagOf}
 use lib.ListN.{length}
 use types.Run.{OneOf, miss}
 use Rattle.num.specs.declared.Order.{Order}
-use Rattle.frame.specs.Place.{starts, shows, stops}
+use Rattle.frame.specs.Place.{shows, stops}
 use Rattle.frame.specs.Frames.{Frame, chunk, skipped, unfinished, ofChunk}
 use Rattle.frame.specs.Frames as Frames
 use Rattle.frame.specs.Ahead.{aheadBy, aheadOf, isChunk}

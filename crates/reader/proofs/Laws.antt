@@ -1,7 +1,7 @@
 -- Laws of a step, by what stands at the cursor's place.
 use Prim.Native.Nat.{ℕ, _+_, _-_, _≤_, _<_}
 use mathlib.Core.Path.{_≡_, refl, ap, _∙_}
-use mathlib.Core.Bool.{Bool, true, false, not}
+use mathlib.Core.Bool.{true, false}
 use mathlib.Core.List.{List, [], _∷_}
 use mathlib.Core.Logic.{_⊎_, inl, inr}
 use native.Mathlib.Omega.{arith}
@@ -11,7 +11,6 @@ use lib.Seq.{drop-drop, drop-length, length-take-le}
 use borrow.Author.Tests.{lt-ltb, le-ltb}
 use types.Run.{OneOf, miss}
 use Rattle.num.specs.Answer.{gives, refuses}
-use Rattle.num.specs.Choice.{both}
 use Rattle.num.specs.declared.Order.{Order}
 use Rattle.frame.specs.Place.{shows, stops, gap}
 use Rattle.frame.specs.Ahead.{aheadOf}
@@ -21,7 +20,6 @@ use Rattle.frame.specs.declared.Ahead.{Ahead}
 use Rattle.frame.specs.declared.Ahead.the-variants.{End, Stretch, Cut, Chunk}
 use Rattle.frame.proofs.Looks.{ahead-at, passed-by}
 use Rattle.frame.proofs.Frames.{complete}
-use Rattle.state.specs.Good.{goodState}
 use Rattle.effect.specs.Ready.{noState}
 use Rattle.effect.specs.Says.{Says}
 use Rattle.reader.specs.Item.{Item, end, skipped, unfinished, chunk, ofChunk, isChunk, isEnd, placedBy, itemSaid}

@@ -27,7 +27,7 @@ use Rattle.state.proofs.Laws.{empty-good}
 use Rattle.effect.specs.Effect.{effect}
 use Rattle.effect.proofs.Good.{effect-good}
 use Rattle.reader.specs.Item.{Item, isEnd}
-use Rattle.reader.specs.Step.{Step, newCursor, before, refused, skips, stepBy, stepOf, after, unfit, Fit}
+use Rattle.reader.specs.Step.{Step, newCursor, before, refused, skips, stepBy, stepOf, after, Fit}
 use Rattle.reader.specs.Items.{Given, itemsFrom, items}
 use Rattle.reader.specs.declared.Cursor.{Cursor}
 use Rattle.reader.proofs.Laws.{step-end, step-ahead, chunk-ends, chunk-size}

@@ -20,15 +20,15 @@ use Rattle.num.specs.Choice.{pick, either}
 use Rattle.num.specs.Number.{unsignedAt, bytesOf}
 use Rattle.num.specs.declared.Order.{Order}
 use Rattle.num.proofs.Laws.{bytes-length}
-use Rattle.num.proofs.Tests.{both-true, each-all, each-stop}
+use Rattle.num.proofs.Tests.{both-true, each-all}
 use Rattle.body.specs.Groups.{listed, headOk, offsetAt, offsetsOk, packed, hertzAt, tuned, gainAt, gainsOk, amplified, giqp, gcf, grg}
 use Rattle.body.specs.Levels.{isFinite}
 use Rattle.body.specs.Lists.{upto, sixteen}
 use Rattle.body.specs.declared.groups.GroupPacking.{GroupPacking}
 use Rattle.body.specs.declared.groups.GroupHertz.{GroupHertz}
 use Rattle.body.specs.declared.groups.GroupGains.{GroupGains}
-use Rattle.body.proofs.GroupLaws.{listed-many, listed-whole, packed-head, packed-offsets, packed-good}
-use Rattle.body.proofs.Laws.{negative32, is-pattern}
+use Rattle.body.proofs.GroupLaws.{listed-many, listed-whole, packed-good}
+use Rattle.body.proofs.Laws.{is-pattern}
 use Rattle.state.specs.Good.{isZero, isPlusZero, anyNumber, isOffset, isNoOffset, goodFrom, goodHead, goodList, goodGroup, goodFrequencies, goodGains}
 use Rattle.state.proofs.Tests.{plus-zero-pattern}
 use Rattle.lay.specs.Numbers.{int64}
@@ -100,18 +100,6 @@ module _ {A : Type 0} (head value : ℕ) (o : Order) (n : ℕ) (rest : List ℕ)
       let t : atMost 17 n ≡ 17 = at-most-many n (ltb 17 n) refl h in
       sym (listed-many head value o (countThen o n rest) f 17 (sym (number-at o 4 (atMost 17 n) [] rest 0 refl (rw t (omega arith)) ∙ t)) k (omega arith))
 
-pub packing-many : (o : Order) (g : GroupPacking) → 16 < g .n → giqp o (packingBody o g) ≡ refuses 13
-unfolding packingBody
-packing-many o g h = counted-many 12 4 o (g .n) _ _ h (simp (length-append, bytes-length) (omega arith))
-
-pub hertz-many : (o : Order) (g : GroupHertz) → 16 < g .n → gcf o (hertzBody o g) ≡ refuses 13
-unfolding hertzBody
-hertz-many o g h = counted-many 4 8 o (g .n) _ _ h (simp (length-append, bytes-length) (omega arith))
-
-pub gains-many : (o : Order) (g : GroupGains) → 16 < g .n → grg o (gainsBody o g) ≡ refuses 13
-unfolding gainsBody
-gains-many o g h = counted-many 4 4 o (g .n) _ _ h (simp (length-append, bytes-length) (omega arith))
-
 -- ---- the size
 
 -- a count and n values of w bytes
@@ -179,16 +167,6 @@ module _ (o : Order) (g : GroupPacking) (few : 1 ≤ g .n) (many : g .n ≤ 16) 
       ap (λ (l : List ℕ). toZ w32 (unsignedAt 4 o l (12 + 4 * c))) e
       ∙ ap (toZ w32) (value-at o 4 (λ (x : ℕ). x) front 12 (g .n) c (g .offsets) 0 n h (omega arith) (fit c h))
 
-  refused-by : (b : Bool) → headOk (g .n) (toZ w32 (pick (g .iq) 1 0)) (toZ w32 (g .increment)) ≡ b → offsetsOk o (packingBody o g) (g .n) ≡ false → packed o (packingBody o g) (g .n) ≡ refuses 12
-  refused-by true e h = packed-offsets o (packingBody o g) (g .n) (pick (g .iq) 1 0) (g .increment) iq-at increment-at e h
-  refused-by false e h = packed-head o (packingBody o g) (g .n) (pick (g .iq) 1 0) (g .increment) iq-at increment-at e
-
-  -- an offset of 2^31 or more is refused
-  pub offset-refused : (c : ℕ) → c < g .n → 2 ^ 31 ≤ getD (g .offsets) c 0 → giqp o (packingBody o g) ≡ refuses 12
-  offset-refused c h k =
-      packing-read
-      ∙ refused-by _ refl (each-stop (λ i. leZ (pos 0) (offsetAt o (packingBody o g) i)) (g .n) c h (rw (offset-at c h, negative32 (getD (g .offsets) c 0) k)))
-
   -- a good group is read back
   good-back : goodGroup g ≡ true → giqp o (packingBody o g) ≡ gives g
   good-back good =
@@ -252,11 +230,6 @@ module _ (o : Order) (g : GroupGains) (few : 1 ≤ g .n) (many : g .n ≤ 16) (a
   gains-read : grg o (gainsBody o g) ≡ amplified o (gainsBody o g) (g .n)
   unfolding gainsBody
   gains-read = counted-back 4 4 o (g .n) (runOf (float32 o) (take (g .n) (g .values))) (amplified o (gainsBody o g)) few many (omega arith) (values-size o 4 (g .n) (toBits binary32) (g .values) (omega arith))
-
-  -- a gain that is a NaN or an infinity is refused
-  pub gain-refused : (c : ℕ) → c < g .n → isFinite (getD (g .values) c (ofBits binary32 0)) ≡ false → grg o (gainsBody o g) ≡ refuses 12
-  unfolding amplified
-  gain-refused c h k = gains-read ∙ rw (each-stop (λ i. isFinite (gainAt o (gainsBody o g) i)) (g .n) c h (ap isFinite (gain-at c h) ∙ k))
 
   finite-back : goodFrom isFinite isPlusZero (g .n) 0 (g .values) ≡ true → grg o (gainsBody o g) ≡ gives g
   unfolding amplified

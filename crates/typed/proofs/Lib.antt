@@ -3,4 +3,3 @@ pub mod Writes
 pub mod Numbers
 pub mod Groups
 pub mod Texts
-pub mod Taken

@@ -6,7 +6,7 @@ use mathlib.Core.List.{List, [], _∷_, _++_, map, flatten, append-assoc}
 use native.Mathlib.Omega.{arith}
 use native.Mathlib.Nat.{add-zero, zero-add}
 use lib.Dec.{eqb}
-use lib.ListN.{length, take, drop, length-append, length-drop}
+use lib.ListN.{length, take, drop, length-append}
 use lib.Seq.{take-at, drop-at, length-take-le}
 use Rattle.num.specs.Answer.{Answer, gives, refuses}
 use Rattle.num.specs.Choice.{pick}
@@ -16,8 +16,7 @@ use Rattle.num.specs.declared.Order.the-variants.{Big, Little}
 use Rattle.num.proofs.Laws.{Bytes, bytes-length}
 use Rattle.lay.specs.Splice.{splice}
 use Rattle.lay.proofs.Splice.{splice-nothing, length-splice, splice-splice}
-use Rattle.frame.specs.declared.At.the-variants.{Complete}
-use Rattle.frame.specs.Place.{syncBytes, starts, goodSize, shows, gap, orderOf}
+use Rattle.frame.specs.Place.{syncBytes, starts, goodSize, orderOf}
 use Rattle.frame.specs.Frames.{Frame, ofChunk, isChunk, chunk, chunkBytes, frameBytes, width, first, framesBy, frames}
 use Rattle.frame.proofs.Laws.{starts-self, order-big, order-little}
 use Rattle.frame.proofs.Looks.{frame-by, other-made}
@@ -104,13 +103,6 @@ pub written-one-by-one : (o : Order) (rs : List Record) (d : List ℕ) → Each 
 written-one-by-one o rs d h f =
     let z : 0 + length (writtenAll o rs) ≡ length (writtenAll o rs) = omega arith in
     one-by-one o rs d 0 h (omega arith) ∙ rw z
-
--- Read over exactly the bytes that were written, they are given in order, and nothing else.
-pub written-then-read : (o : Order) (rs : List Record) (d : List ℕ) → Each (Taken o) rs → Each Typed rs → length (writtenAll o rs) ≤ length d →
-    frames o (take (length (writtenAll o rs)) (writeAll o rs d 0 .slice)) ≡ map chunkOf rs
-written-then-read o rs d h t f =
-    let w = writtenAll o rs in
-    rw (written-one-by-one o rs d h f, take-at w (drop (0 + length w) d) (length w) refl) (read-back o rs h t)
 
 -- ---- a stream is written back
 
