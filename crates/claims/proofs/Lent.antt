@@ -1,11 +1,12 @@
--- A refused call leaves what it was lent: one statement over all calls of the library that are lent a slice to fill.
+-- A refused call leaves what it was lent: one statement over all calls of the library that are lent a slice to fill. And what goes
+-- with a refusal.
 use Prim.Native.Nat.{ℕ}
 use mathlib.Core.Path.{_≡_, refl, ap, sym, _∙_}
 use mathlib.Core.Bool.{Bool, true, false, not}
 use native.Mathlib.Omega.{arith}
 use borrow.Author.Tests.{not-true}
 use lib.ListN.{length}
-use Rattle.num.specs.Answer.{Answer, gives, refuses}
+use Rattle.num.specs.Answer.{Answer, gives, refuses, replyWith}
 use Rattle.copy.proofs.pattern_pairs.Reads as pattern_pairs
 use Rattle.copy.proofs.pattern_reals.Reads as pattern_reals
 use Rattle.copy.proofs.short_pairs.Reads as short_pairs
@@ -20,7 +21,8 @@ use Rattle.lister.specs.declared.Listed.the-variants.{Laid, Needs}
 use Rattle.lister.proofs.Theorems.{needs-told}
 use Rattle.lister.proofs.Promises.{lay-no-room}
 use Rattle.lister.proofs.lay.Reads as listing
-use Rattle.samples.specs.Copy.{copiedSaid}
+use Rattle.samples.specs.Copy.{copiedSaid, copiedReply}
+use Rattle.samples.specs.declared.Copied.{Copied}
 use Rattle.samples.proofs.patterns.patterns_at.Reads as patterns_at
 use Rattle.samples.proofs.patterns.patterns_of.Reads as patterns_of
 use Rattle.samples.proofs.shorts.shorts_at.Reads as shorts_at
@@ -39,7 +41,8 @@ use Rattle.typed.proofs.number.siqp.Reads as siqp
 use Rattle.typed.proofs.number.sofh.Reads as sofh
 use Rattle.typed.proofs.number.sr.Reads as sr
 use Rattle.typed.proofs.plain.text.Reads as text
-use Rattle.writer.specs.Write.{writtenSaid}
+use Rattle.writer.specs.Write.{writtenSaid, writtenReply}
+use Rattle.writer.specs.declared.Written.{Written}
 use Rattle.writer.proofs.patterns.gfnc.Reads as gfnc
 use Rattle.writer.proofs.patterns.sfnc.Reads as sfnc
 use Rattle.writer.proofs.patterns.sfnr.Reads as sfnr
@@ -188,3 +191,13 @@ refused-leaves writeText = λ κs a r s p k. rw (rule-refuses _ (p .0) k .1) at 
 refused-leaves layListing = λ κs a r s p k.
     let w = needs-by r k in
     lay-no-room κs a r s p (needs-told (length (listed (a .0 .now))) (length (a .1 .0 .now)) (w .0) (sym (p .0) ∙ w .1) .1) .1
+
+-- ---- what goes with a refusal
+
+-- The count of a copy that refuses is 0.
+pub refused-count : (r : Copied) → isRefusal (copiedSaid r) ≡ true → copiedReply r .value ≡ 0
+refused-count r k = ap (λ (a : Answer ℕ). replyWith 0 a .value) (refuses-by (copiedSaid r) k .1)
+
+-- The place of a write that refuses is the place as it came.
+pub refused-place : (r : Written) (came : ℕ) → isRefusal (writtenSaid r) ≡ true → writtenReply came r .value ≡ came
+refused-place r came k = ap (λ (a : Answer ℕ). replyWith came a .value) (refuses-by (writtenSaid r) k .1)
