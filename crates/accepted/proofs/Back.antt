@@ -1,4 +1,4 @@
--- A stream of complete chunks, none of which the reader refuses with 11 to 15, is written back byte for byte.
+-- A stream is written back as the same bytes where its items are complete chunks and the reader gives none of them a number of 11 to 15.
 use Prim.Native.Nat.{ℕ, _+_, _≤_}
 use mathlib.Core.Path.{_≡_, refl}
 use mathlib.Core.Bool.{Bool, true, false, not}

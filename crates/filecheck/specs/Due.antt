@@ -28,7 +28,7 @@ OfKind k f = ofChunk ⊥ (λ type body. kindOf type ≡ k) f
 abbrev pub WellFormed : Order → Kind → Frame → Type 0
 WellFormed o k f = ofChunk ⊥ (λ type body. (kindOf type ≡ k) × (wellFormed o type body ≡ true)) f
 
--- a chunk of a data kind, well-formed or not: its samples have a shape
+-- a data chunk, malformed ones too: its samples have a shape
 abbrev pub IsData : Frame → Type 0
 IsData f = ofChunk ⊥ (λ type body. (shape : Shape) × (shaped (kindOf type) ≡ Samples shape)) f
 

@@ -1,4 +1,4 @@
--- Every byte of a stream belongs to exactly one item.
+-- Each byte of a stream is one of an item's own, and of no other item's.
 use Prim.Native.Nat.{ℕ, zero, suc, _+_, _-_, _≤_, _<_}
 use mathlib.Core.Path.{_≡_, refl}
 use mathlib.Core.Bool.{Bool, true, false}
@@ -96,6 +96,6 @@ module _ (o : Order) (s : List ℕ) where
   pub spans : (k : ℕ) → k < length (items o s) → Spans (givenAt (items o s) k .item) (after k o s newCursor .place) (after (suc k) o s newCursor .place)
   spans = spans-from newCursor (new-sound s)
 
-  -- Every byte of a stream belongs to exactly one of its items.
+  -- Each byte of a stream is in one of its items and in no other.
   pub covered-once : (k : ℕ) → k < length s → ExactlyOne (length (items o s)) (λ j. Covers (givenAt (items o s) j .item) k)
   covered-once k u = covered-from newCursor (new-sound s) k (omega arith) u
