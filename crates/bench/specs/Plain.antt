@@ -2,7 +2,7 @@
 use Prim.Native.Nat.{ℕ, _+_}
 use mathlib.Core.List.{List, [], _∷_}
 use lib.Dec.{eqb}
-use Rattle.num.specs.Answer.{Answer, gives, refuses}
+use Rattle.num.specs.Answer.{Answer, replyWith}
 use Rattle.num.specs.Choice.{pick}
 use Rattle.num.specs.declared.Order.{Order}
 use Rattle.num.specs.declared.Order.the-variants.{Big, Little}
@@ -18,8 +18,7 @@ orderBy n = pick (eqb n 0) Big Little
 
 -- the number that is given, 0 on a refusal
 abbrev pub orZero : Answer ℕ → ℕ
-orZero (gives n) = n
-orZero (refuses k) = 0
+orZero a = replyWith 0 a .value
 
 -- where a search stopped, or the end
 abbrev pub placeOr : ℕ → Found → ℕ

@@ -11,8 +11,8 @@ ghost use Rattle.frame.specs.Place.{searchFrom};
 ghost use Rattle.reader.specs.Item.{itemSaid};
 ghost use Rattle.reader.specs.Items.{items};
 ghost use Rattle.reader.specs.Step.{newCursor, after};
-ghost use Rattle.samples.specs.Copy.{copiedSaid, layoutAt, countOf, samplesAt, filled};
-ghost use Rattle.writer.specs.Write.{writeOf, writtenOut, writtenSaid};
+ghost use Rattle.samples.specs.Copy.{layoutAt, countOf, samplesAt, filled};
+ghost use Rattle.writer.specs.Write.{writeOf, writtenOut};
 ghost use Rattle.bench.specs.Plain.{orderBy, orZero, placeOr, sound, soundCount};
 ghost use Rattle.bench.specs.Inner.Sound.{soundIn};
 use body::TextRead;
@@ -21,8 +21,6 @@ use frame::Found;
 use num::Order;
 use reader::Cursor;
 use reader::Item;
-use samples::Copied;
-use writer::Written;
 
 // The order by its number: 0 is big, any other little.
 fn order_by(number: u32) -> Order
@@ -129,18 +127,6 @@ pub extern "C" fn bench_text(order: u32, body: &[u8]) -> u32
     }
 }
 
-fn next_of(written: Written) -> usize
-    ensures { λ r. ⌜ r ≡ orZero (writtenSaid written) ⌝ }
-{
-    match written {
-        Written::Next(place) => place,
-        Written::PastEnd => 0,
-        Written::BadSize => 0,
-        Written::Malformed(_) => 0,
-        Written::NoRoom => 0,
-    }
-}
-
 // A record written at a place of out: the place past it, 0 where nothing is written.
 #[no_mangle]
 pub extern "C" fn bench_write(
@@ -153,20 +139,8 @@ pub extern "C" fn bench_write(
     ensures { λ r. ⌜ r ≡ orZero (writeOf (orderBy order) code (now (body .entry)) (length (now (out .entry))) place) ⌝ }
     ensures { λ _. ⌜ now (out .exit) ≡ writtenOut (orderBy order) code (now (body .entry)) (now (out .entry)) place ⌝ }
 {
-    next_of(writer::write(order_by(order), code, body, out, place))
-}
-
-fn count_of(copied: Copied) -> usize
-    ensures { λ r. ⌜ r ≡ orZero (copiedSaid copied) ⌝ }
-{
-    match copied {
-        Copied::Count(n) => n,
-        Copied::PastEnd => 0,
-        Copied::BadState => 0,
-        Copied::NotReady => 0,
-        Copied::NoChannel => 0,
-        Copied::TooShort => 0,
-    }
+    let written = writer::write(order_by(order), code, body, out, place);
+    written.place(0)
 }
 
 // The 16-bit numbers of a channel, out of the chunk that so many steps lead to: how many were copied.
@@ -191,7 +165,8 @@ pub extern "C" fn bench_shorts(
 {
     let by = order_by(order);
     let walked = walk(by, s, steps);
-    count_of(samples::shorts_at(by, s, walked.cursor, channel, out))
+    let copied = samples::shorts_at(by, s, walked.cursor, channel, out);
+    copied.count()
 }
 
 // The same of 32-bit patterns.
@@ -216,5 +191,6 @@ pub extern "C" fn bench_patterns(
 {
     let by = order_by(order);
     let walked = walk(by, s, steps);
-    count_of(samples::patterns_at(by, s, walked.cursor, channel, out))
+    let copied = samples::patterns_at(by, s, walked.cursor, channel, out);
+    copied.count()
 }

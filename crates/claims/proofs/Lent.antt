@@ -1,12 +1,19 @@
 -- A refused call leaves what it was lent: one statement over all calls of the library that are lent a slice to fill. And what goes
 -- with a refusal.
-use Prim.Native.Nat.{ℕ}
+use Prim.Native.Nat.{ℕ, _+_, _<_}
 use mathlib.Core.Path.{_≡_, refl, ap, sym, _∙_}
 use mathlib.Core.Bool.{Bool, true, false, not}
+use mathlib.Core.List.{List}
 use native.Mathlib.Omega.{arith}
-use borrow.Author.Tests.{not-true}
+use borrow.Author.Tests.{not-true, eqb-true}
+use lib.Dec.{eqb}
 use lib.ListN.{length}
-use Rattle.num.specs.Answer.{Answer, gives, refuses, replyWith}
+use Rattle.num.specs.Answer.{Answer, gives, refuses, replyWith, then}
+use Rattle.num.specs.declared.Order.{Order}
+use Rattle.bench.specs.Plain.{orderBy}
+use Rattle.bench.proofs.bench_patterns.Reads as bench_patterns
+use Rattle.bench.proofs.bench_shorts.Reads as bench_shorts
+use Rattle.bench.proofs.bench_write.Reads as bench_write
 use Rattle.copy.proofs.pattern_pairs.Reads as pattern_pairs
 use Rattle.copy.proofs.pattern_reals.Reads as pattern_reals
 use Rattle.copy.proofs.short_pairs.Reads as short_pairs
@@ -21,8 +28,12 @@ use Rattle.lister.specs.declared.Listed.the-variants.{Laid, Needs}
 use Rattle.lister.proofs.Theorems.{needs-told}
 use Rattle.lister.proofs.Promises.{lay-no-room}
 use Rattle.lister.proofs.lay.Reads as listing
-use Rattle.samples.specs.Copy.{copiedSaid, copiedReply}
+use Rattle.reader.specs.Step.{newCursor, after}
+use Rattle.reader.specs.declared.Cursor.{Cursor}
+use Rattle.samples.specs.Copy.{copiedSaid, copiedReply, layoutAt, countWithin, countOf, filled}
 use Rattle.samples.specs.declared.Copied.{Copied}
+use Rattle.samples.specs.declared.Layout.{Layout}
+use Rattle.samples.proofs.First.{first-numbers}
 use Rattle.samples.proofs.patterns.patterns_at.Reads as patterns_at
 use Rattle.samples.proofs.patterns.patterns_of.Reads as patterns_of
 use Rattle.samples.proofs.shorts.shorts_at.Reads as shorts_at
@@ -41,8 +52,9 @@ use Rattle.typed.proofs.number.siqp.Reads as siqp
 use Rattle.typed.proofs.number.sofh.Reads as sofh
 use Rattle.typed.proofs.number.sr.Reads as sr
 use Rattle.typed.proofs.plain.text.Reads as text
-use Rattle.writer.specs.Write.{writtenSaid, writtenReply}
+use Rattle.writer.specs.Write.{writeOf, writtenOut, writtenSaid, writtenReply}
 use Rattle.writer.specs.declared.Written.{Written}
+use Rattle.writer.proofs.Laws.{next-given, written}
 use Rattle.writer.proofs.patterns.gfnc.Reads as gfnc
 use Rattle.writer.proofs.patterns.sfnc.Reads as sfnc
 use Rattle.writer.proofs.patterns.sfnr.Reads as sfnr
@@ -65,7 +77,7 @@ isNeed (Needs n) = true
 abbrev pub Leaves : {K B : Type 0} {A R S : K → Type 0} → ((κs : K) → A κs → R κs → S κs → Type 0) → ((κs : K) → R κs → Bool) → ((κs : K) → A κs → B) → ((κs : K) → S κs → B) → Type 0
 Leaves {K} {B} {A} {R} {S} Post refused held left = (κs : K) (a : A κs) (r : R κs) (s : S κs) → Post κs a r s → refused κs r ≡ true → left κs s ≡ held κs a
 
--- the calls that are lent a slice to fill, by crate: lay, copy, samples, writer, typed, lister
+-- the calls that are lent a slice to fill, by crate: lay, copy, samples, writer, typed, lister, bench
 pub data Lent : Type 0 where
   layBytes : Lent
   layShorts : Lent
@@ -101,8 +113,11 @@ pub data Lent : Type 0 where
   writeGrg : Lent
   writeText : Lent
   layListing : Lent
+  benchWrite : Lent
+  benchShorts : Lent
+  benchPatterns : Lent
 
--- a refusal is false in lay and copy, what a listing needs in lister, and elsewhere an answer that has a number
+-- a refusal is false in lay and copy, what a listing needs in lister, 0 in bench, and elsewhere an answer that has a number
 abbrev pub LeavesLent : Lent → Type 0
 LeavesLent layBytes = Leaves bytes.Post (λ κs r. not r) (λ κs a. a .1 .0 .now) (λ κs s. s .1 .0 .now)
 LeavesLent layShorts = Leaves shorts.Post (λ κs r. not r) (λ κs a. a .1 .1 .0 .now) (λ κs s. s .1 .1 .0 .now)
@@ -138,6 +153,9 @@ LeavesLent writeGcf = Leaves gcf.Post (λ κs r. isRefusal (writtenSaid r)) (λ 
 LeavesLent writeGrg = Leaves grg.Post (λ κs r. isRefusal (writtenSaid r)) (λ κs a. a .1 .1 .0 .now) (λ κs s. s .1 .1 .0 .now)
 LeavesLent writeText = Leaves text.Post (λ κs r. isRefusal (writtenSaid r)) (λ κs a. a .1 .1 .0 .now) (λ κs s. s .1 .1 .0 .now)
 LeavesLent layListing = Leaves listing.Post (λ κs r. isNeed r) (λ κs a. a .1 .0 .now) (λ κs s. s .1 .0 .now)
+LeavesLent benchWrite = Leaves bench_write.Post (λ κs r. eqb r 0) (λ κs a. a .1 .1 .1 .0 .now) (λ κs s. s .1 .1 .1 .0 .now)
+LeavesLent benchShorts = Leaves bench_shorts.Post (λ κs r. eqb r 0) (λ κs a. a .1 .1 .1 .1 .0 .now) (λ κs s. s .1 .1 .1 .1 .0 .now)
+LeavesLent benchPatterns = Leaves bench_patterns.Post (λ κs r. eqb r 0) (λ κs a. a .1 .1 .1 .1 .0 .now) (λ κs s. s .1 .1 .1 .1 .0 .now)
 
 -- ---- by what a call answers
 
@@ -152,6 +170,29 @@ rule-refuses w e k = refuses-by w (ap isRefusal (sym e) ∙ k)
 needs-by : (r : Listed) → isNeed r ≡ true → (n : ℕ) × (r ≡ Needs n)
 needs-by (Laid n) k = let z : _≡_ {A = ℕ} 0 1 = cc in absurd (omega arith)
 needs-by (Needs n) k = (n, refl)
+
+-- where a record is written the next place is not 0, so a 0 says that none is
+next-some : (o : Order) (code : ℕ) (body : List ℕ) (whole place next : ℕ) → writeOf o code body whole place ≡ gives next → 0 < next
+next-some o code body whole place next e =
+    let g = next-given o code body whole place next e in
+    let w : _≡_ {A = Answer ℕ} (gives next) (gives (place + 12 + length body)) = sym e ∙ written o code body whole place (g .0) (g .1) in
+    let n : next ≡ place + 12 + length body = cc in
+    omega arith
+
+zero-wrote : (o : Order) (code : ℕ) (body d l : List ℕ) (place : ℕ) (w : Answer ℕ) → writeOf o code body (length d) place ≡ w → l ≡ writtenOut o code body d place → replyWith 0 w .value ≡ 0 → l ≡ d
+zero-wrote o code body d l place (gives next) e h z = absurd (omega (arith, next-some o code body (length d) place next e))
+zero-wrote o code body d l place (refuses n) e h z = rw e at h
+
+-- a copy of no number, or a refused one, leaves the slice
+zero-copied : {X : Type 0} (value : ℕ → X) (was is : List X) (a : Answer Layout) (w : Answer ℕ) → then a (countWithin (length was)) ≡ w → is ≡ filled (then a (countWithin (length was))) a value was →
+    replyWith 0 w .value ≡ 0 → is ≡ was
+zero-copied value was is a (gives n) e h z = rw z at (first-numbers value n was is a (sym e) h .rest)
+zero-copied value was is a (refuses n) e h z = rw e at h
+
+zero-counted : {X : Type 0} (float : Bool) (o : Order) (s : List ℕ) (c : Cursor) (channel : ℕ) (value : ℕ → X) (was is : List X) →
+    is ≡ filled (countOf float o s c channel (length was)) (layoutAt float o s c channel) value was → replyWith 0 (countOf float o s c channel (length was)) .value ≡ 0 → is ≡ was
+unfolding countOf
+zero-counted float o s c channel value was is h z = zero-copied value was is (layoutAt float o s c channel) _ refl h z
 
 -- A call that refuses leaves the slice as it was, for each of them.
 pub refused-leaves : (f : Lent) → LeavesLent f
@@ -191,6 +232,9 @@ refused-leaves writeText = λ κs a r s p k. rw (rule-refuses _ (p .0) k .1) at 
 refused-leaves layListing = λ κs a r s p k.
     let w = needs-by r k in
     lay-no-room κs a r s p (needs-told (length (listed (a .0 .now))) (length (a .1 .0 .now)) (w .0) (sym (p .0) ∙ w .1) .1) .1
+refused-leaves benchWrite = λ κs a r s p k. zero-wrote (orderBy (a .0)) (a .1 .0) (a .1 .1 .0 .now) (a .1 .1 .1 .0 .now) (s .1 .1 .1 .0 .now) (a .1 .1 .1 .1 .0) _ refl (p .1) (sym (p .0) ∙ eqb-true r 0 k)
+refused-leaves benchShorts = λ κs a r s p k. zero-counted false (orderBy (a .0)) (a .1 .0 .now) (after (a .1 .1 .0) (orderBy (a .0)) (a .1 .0 .now) newCursor) (a .1 .1 .1 .0) _ (a .1 .1 .1 .1 .0 .now) (s .1 .1 .1 .1 .0 .now) (p .1) (sym (p .0) ∙ eqb-true r 0 k)
+refused-leaves benchPatterns = λ κs a r s p k. zero-counted true (orderBy (a .0)) (a .1 .0 .now) (after (a .1 .1 .0) (orderBy (a .0)) (a .1 .0 .now) newCursor) (a .1 .1 .1 .0) _ (a .1 .1 .1 .1 .0 .now) (s .1 .1 .1 .1 .0 .now) (p .1) (sym (p .0) ∙ eqb-true r 0 k)
 
 -- ---- what goes with a refusal
 

@@ -14,8 +14,8 @@ walk-requires c κs = search needs
 patterns-at-requires : tie.Need-patterns-at-requires
 patterns-at-requires c κs = search needs
 
-count-of-requires : tie.Need-count-of-requires
-count-of-requires c κs = search needs
+count-requires : tie.Need-count-requires
+count-requires c κs = search needs
 
 same-length : tie.Need-same-length
 same-length c = search needs
@@ -24,7 +24,7 @@ returns : tie.Need-returns
 returns c =
     let k = c .before .before .before in
     let e = k .patterns-at .ensures in
-    rw (← k .before .before .before .order-by .ensures, ← k .before .before .walk .ensures .0) (c .count-of .ensures ∙ ap orZero (e .0), e .1)
+    rw (← k .before .before .before .order-by .ensures, ← k .before .before .walk .ensures .0) (c .count .ensures ∙ ap orZero (e .0), e .1)
 
 pub bench-patterns-spec : {M : Type 1} → statement M
 bench-patterns-spec =
@@ -33,6 +33,6 @@ bench-patterns-spec =
     order-by-requires
     walk-requires
     patterns-at-requires
-    count-of-requires
+    count-requires
     same-length
     returns)

@@ -11,8 +11,8 @@ order-by-requires c κs = search needs
 write-requires : tie.Need-write-requires
 write-requires c κs = search needs
 
-next-of-requires : tie.Need-next-of-requires
-next-of-requires c κs = search needs
+place-requires : tie.Need-place-requires
+place-requires c κs = search needs
 
 same-length : tie.Need-same-length
 same-length c = search needs
@@ -21,8 +21,8 @@ returns : tie.Need-returns
 returns c =
     let k = c .before .before .before in
     let w = k .write .ensures in
-    rw (← k .before .before .order-by .ensures) (c .next-of .ensures ∙ ap orZero (w .0), w .1)
+    rw (← k .before .before .order-by .ensures) (c .place .ensures ∙ ap orZero (w .0), w .1)
 
 pub bench-write-spec : {M : Type 1} → statement M
 bench-write-spec =
-    tie.close (tie.spec order-by-requires write-requires next-of-requires same-length returns)
+    tie.close (tie.spec order-by-requires write-requires place-requires same-length returns)
