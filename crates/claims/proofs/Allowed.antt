@@ -1,7 +1,7 @@
 -- What number 3 allows in a slot is just what the body table allows there: a present value is good exactly where a
 -- well-formed body of a kind that sets the slot leaves it, and the one good value that is not present is what stands for
 -- an absent one.
-use Prim.Native.Nat.{ℕ, zero, suc, _/_}
+use Prim.Native.Nat.{ℕ, suc}
 use mathlib.Core.Path.{_≡_, refl, sym, ap, ap₂, subst, _∙_}
 use mathlib.Core.Bool.{Bool, true, false, not}
 use mathlib.Core.List.{List, [], _∷_, _++_}
@@ -9,8 +9,7 @@ use mathlib.Core.Logic.{_↔_}
 use native.Mathlib.Omega.{arith}
 use borrow.Author.Tests.{lt-ltb, le-ltb, eq-eqb, ltb-true, ltb-false, leb-true, eqb-true, not-true}
 use lib.Dec.{T, eqb, ltb, leb}
-use lib.Ieee.{Float, binary32, ofBits, toBits, fits, lt}
-use lib.Ieee.Bits.{ofBits-toBits}
+use lib.Ieee.{binary32, ofBits, toBits, fits, lt}
 use lib.IntN.{ℤ, pos, negsuc}
 use lib.ListN.{length, getD, take, replicate}
 use lib.Signed.{leZ}
@@ -41,22 +40,18 @@ use Rattle.state.specs.Good.{isZero, isPlusZero, zeroOrOne, anyNumber, isOffset
 use Rattle.state.specs.State.{valueIn, setIn, emptied}
 use Rattle.state.specs.declared.State.{State}
 use Rattle.state.specs.declared.Values.{Values}
-use Rattle.state.proofs.Tests.{plus-zero-pattern}
 use Rattle.effect.specs.Effect.{effectBy, effect}
 use Rattle.effect.proofs.Good.{Allows, allows}
 use Rattle.lay.specs.Runs.{runOf}
 use Rattle.lay.specs.Numbers.{int32, int64}
 use Rattle.typed.specs.Bodies.{float32}
 use Rattle.typed.specs.Groups.{atMost, packingBody, hertzBody, gainsBody}
-use Rattle.typed.proofs.Groups.{packing-back, hertz-back, gains-back}
+use Rattle.lay.proofs.Stored.{digits-bytes}
+use Rattle.typed.proofs.Groups.{zero-is, plus-zero-is, packing-back, hertz-back, gains-back}
 use Rattle.typed.proofs.Numbers.{siqp-back, at-least-back, cf-back, bwof-back, dbfs-back, dbtg-back, ffs-back}
 use Rattle.claims.specs.Allowed.{isPresent, Fitting, Left}
 
 -- ---- the bodies are bytes
-
-digits-bytes : (k n : ℕ) → Bytes (digits k n)
-digits-bytes zero n i = record { fits = omega arith }
-digits-bytes (suc k) n i = cons-bytes (digits k (n / 256)) (record { fits = omega arith }) (digits-bytes k (n / 256)) i
 
 number-bytes : (o : Order) (k n : ℕ) → Bytes (bytesOf o k n)
 number-bytes o k n = least-bytes o (digits k n) (digits-bytes k n)
@@ -283,15 +278,6 @@ pub allowed-both-ways : (o : Order) (x : Slot) (v : Value x) → Fitting x v →
 allowed-both-ways o x v f = (λ h. just-allowed o x v f (h .0) (h .1), left-allowed o x v)
 
 -- ---- what is good and not present
-
-zero-is : (z : ℤ) → isZero z ≡ true → z ≡ pos 0
-zero-is (pos n) h = ap pos (eqb-true n 0 h)
-zero-is (negsuc n) h = let z : _≡_ {A = ℕ} 0 1 = cc in absurd (omega arith)
-
-plus-zero-is : (x : Float) → T (fits binary32 x) → isPlusZero x ≡ true → x ≡ ofBits binary32 0
-plus-zero-is x f h =
-    sym (ofBits-toBits binary32 x f)
-    ∙ ap (ofBits binary32) (eqb-true (toBits binary32 x) 0 (plus-zero-pattern x f ∙ h))
 
 no-number : (v : Held) → v .present ≡ false → isZero (v .value) ≡ true → v ≡ noNumber
 no-number v p h = λ i. record { present = p i; value = zero-is (v .value) h i }

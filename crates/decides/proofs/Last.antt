@@ -15,9 +15,9 @@ use Rattle.body.specs.Kind.{kindOf}
 use Rattle.body.specs.Table.{Slot, packing, rate, band, groupBand, centre, fullScale, totalGain, floatScale, group, frequencies, gains, Value, none, isSlot, Row, sets, marks, leaves, samples, unknown, row, setBy, shaped}
 use Rattle.body.specs.Verdict.{seen, verdictBy, verdict}
 use Rattle.body.specs.declared.kinds.Kind.{Kind}
-use Rattle.state.specs.State.{valueIn, setIn, built}
+use Rattle.state.specs.State.{valueIn, built}
 use Rattle.state.specs.declared.Values.{Values}
-use Rattle.state.proofs.Slots.{in-built, set-other}
+use Rattle.state.proofs.Slots.{in-built, set-other, in-set, set-none}
 use Rattle.effect.specs.Ready.{hertzOf, gainsOf, inGroup}
 use Rattle.decides.specs.Last.{isSkipped, Last, nothing, set, lastAfter, lastOf, Leaves, AllLeave, LastIs, NoneSince, valueBy, valueOf, lastValue, lastValues, groupShaped, shownBy, isCounted}
 
@@ -56,33 +56,6 @@ module _ (x : Slot) where
       ∙ rw (n .setter) (leaves-all (set code b) (n .later) (n .others))
 
 -- ---- the value that it leaves
-
-in-set : (x : Slot) (a : Value x) (v : Values) → valueIn x (setIn x a v) ≡ a
-in-set packing a v = refl
-in-set rate a v = refl
-in-set band a v = refl
-in-set groupBand a v = refl
-in-set centre a v = refl
-in-set fullScale a v = refl
-in-set totalGain a v = refl
-in-set floatScale a v = refl
-in-set group a v = refl
-in-set frequencies a v = refl
-in-set gains a v = refl
-
--- an absent value set where none is present changes nothing
-set-none : (x : Slot) → setIn x (none x) (built none) ≡ built none
-set-none packing = refl
-set-none rate = refl
-set-none band = refl
-set-none groupBand = refl
-set-none centre = refl
-set-none fullScale = refl
-set-none totalGain = refl
-set-none floatScale = refl
-set-none group = refl
-set-none frequencies = refl
-set-none gains = refl
 
 refused-held : {A B : Type 0} (none : B) (hold : A → B) (a : Answer A) (n : ℕ) → seen a ≡ refuses n → orElse none hold a ≡ none
 refused-held none hold (gives a) n e = let z : _≡_ {A = ℕ} 0 1 = cc in absurd (omega arith)

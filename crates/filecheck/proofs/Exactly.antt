@@ -1,20 +1,20 @@
 -- One answer is due, so the check of a file gives each answer exactly where it is due.
-use Prim.Native.Nat.{ℕ, zero, suc, _-_, _≤_}
+use Prim.Native.Nat.{ℕ, _≤_}
 use mathlib.Core.Path.{_≡_, refl, ap, subst, sym, _∙_}
 use mathlib.Core.Bool.{Bool, true, false}
 use mathlib.Core.List.{List, [], _∷_}
 use mathlib.Core.Logic.{_↔_, _⊎_, inl, inr, ⊎-elim}
 use native.Mathlib.Omega.{arith}
 use lib.Dec.{eqb, ltb}
-use lib.ListN.{length, take, drop, length-drop, drop-of-length-le}
+use lib.ListN.{length, take, drop, drop-of-length-le}
 use lib.Seq.{take-length}
 use borrow.Author.Tests.{eqb-true, ltb-true, ltb-false}
 use Rattle.num.specs.Answer.{refuses, refusal}
 use Rattle.num.specs.Choice.{pick}
 use Rattle.num.specs.declared.Order.{Order}
-use Rattle.frame.specs.Frames.{Frame, chunk, ofChunk, width, first, framesBy, frames, covered}
+use Rattle.frame.specs.Frames.{Frame, chunk, ofChunk, first, frames, covered}
 use Rattle.frame.proofs.Looks.{frame-by, other-made}
-use Rattle.frame.proofs.Frames.{first-takes}
+use Rattle.frame.proofs.Theorems.{covered-whole}
 use Rattle.body.specs.Kind.{kindOf}
 use Rattle.body.specs.declared.kinds.Kind.the-variants.{SOFH}
 use Rattle.filecheck.specs.File.{FileAnswer, good, refused, partOf, wellFormed, passes, fileOf}
@@ -108,20 +108,9 @@ module _ (o : Order) (s : List ℕ) where
 
 -- ---- the end of a file
 
-covered-by : (f : ℕ) (o : Order) (l : List ℕ) → length l ≤ f → covered (framesBy f o l) ≡ length l
-unfolding framesBy
-covered-by zero o [] h = refl
-covered-by zero o (x ∷ l) h = absurd (omega arith)
-covered-by (suc f) o [] h = refl
-covered-by (suc f) o (x ∷ l) h =
-    let w = width (first o (x ∷ l)) in
-    let t = first-takes o x l in
-    let n : length (drop w (x ∷ l)) ≡ length (x ∷ l) - w = length-drop w (x ∷ l) in
-    omega (arith, t .most, t .some, covered-by f o (drop w (x ∷ l)) (omega (arith, t .some)))
-
 -- The end of the file, which has the number after the last frame, stands at the length of the file.
 pub end-place : (o : Order) (s : List ℕ) → covered (take (length (frames o s)) (frames o s)) ≡ length s
-end-place o s = ap covered (take-length (frames o s)) ∙ covered-by (length s) o s (omega arith)
+end-place o s = ap covered (take-length (frames o s)) ∙ covered-whole o s
 
 -- So 42 is given at a data chunk or at the length of the file.
 pub early-place : (o : Order) (s : List ℕ) (p : ℕ) (h : FirstWrong o (frames o s) 42 p) → Stands IsData (frames o s) (h .at) ⊎ (p ≡ length s)

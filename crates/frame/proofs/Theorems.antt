@@ -65,6 +65,21 @@ some-by (suc f) o (x ∷ l) a h m =
 pub none-empty : (o : Order) (s : List ℕ) (a : Frame) → List·Memᴰ a (frames o s) → 1 ≤ width a
 none-empty o s a m = some-by (length s) o s a (omega arith) m
 
+covered-by : (f : ℕ) (o : Order) (l : List ℕ) → length l ≤ f → covered (framesBy f o l) ≡ length l
+unfolding framesBy
+covered-by zero o [] h = refl
+covered-by zero o (x ∷ l) h = absurd (omega arith)
+covered-by (suc f) o [] h = refl
+covered-by (suc f) o (x ∷ l) h =
+    let w = width (first o (x ∷ l)) in
+    let t = first-takes o x l in
+    let n : length (drop w (x ∷ l)) ≡ length (x ∷ l) - w = length-drop w (x ∷ l) in
+    omega (arith, t .most, t .some, covered-by f o (drop w (x ∷ l)) (omega (arith, t .some)))
+
+-- the frames of a stream take all of its bytes
+pub covered-whole : (o : Order) (s : List ℕ) → covered (frames o s) ≡ length s
+covered-whole o s = covered-by (length s) o s (omega arith)
+
 ahead-by : (k f : ℕ) (o : Order) (l : List ℕ) → length l ≤ f → drop k (framesBy f o l) ≡ frames o (drop (covered (take k (framesBy f o l))) l)
 unfolding framesBy
 ahead-by zero f o l h = fuel f (length l) o l h (omega arith)

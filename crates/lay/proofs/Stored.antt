@@ -36,7 +36,8 @@ stored-all k d at l e h =
     let z : at + 0 ≡ at = omega arith in
     stored-is d at 0 (elems 0 0 k l) (omega arith) ∙ rw (q, z)
 
-digits-bytes : (k n : ℕ) → Bytes (digits k n)
+-- the digits of a number are bytes
+pub digits-bytes : (k n : ℕ) → Bytes (digits k n)
 digits-bytes zero n i = record { fits = omega arith }
 digits-bytes (suc k) n i = cons-bytes (digits k (n / 256)) (record { fits = omega arith }) (digits-bytes k (n / 256)) i
 

@@ -52,3 +52,31 @@ set-other y a v x e = in-put y a v x false e
 -- and the slot itself does not depend on what was there
 pub set-own : (y : Slot) (a : Value y) (v w : Values) (x : Slot) → isSlot y x ≡ true → valueIn x (setIn y a v) ≡ valueIn x (setIn y a w)
 set-own y a v w x e = in-put y a v x true e ∙ rw (in-put y a w x true e)
+
+-- a slot holds what it was set to
+pub in-set : (x : Slot) (a : Value x) (v : Values) → valueIn x (setIn x a v) ≡ a
+in-set packing a v = refl
+in-set rate a v = refl
+in-set band a v = refl
+in-set groupBand a v = refl
+in-set centre a v = refl
+in-set fullScale a v = refl
+in-set totalGain a v = refl
+in-set floatScale a v = refl
+in-set group a v = refl
+in-set frequencies a v = refl
+in-set gains a v = refl
+
+-- an absent value set where none is present changes nothing
+pub set-none : (x : Slot) → setIn x (none x) (built none) ≡ built none
+set-none packing = refl
+set-none rate = refl
+set-none band = refl
+set-none groupBand = refl
+set-none centre = refl
+set-none fullScale = refl
+set-none totalGain = refl
+set-none floatScale = refl
+set-none group = refl
+set-none frequencies = refl
+set-none gains = refl

@@ -193,7 +193,8 @@ packing-back o g good few all =
 
 -- ---- GCF_
 
-zero-is : (z : ℤ) → isZero z ≡ true → z ≡ pos 0
+-- a number, and a float, that pass for an absent one are 0
+pub zero-is : (z : ℤ) → isZero z ≡ true → z ≡ pos 0
 zero-is (pos n) h = ap pos (eqb-true n 0 h)
 zero-is (negsuc n) h = let z : _≡_ {A = ℕ} 0 1 = cc in absurd (omega arith)
 
@@ -216,7 +217,7 @@ module _ (o : Order) (g : GroupHertz) (good : goodFrequencies g ≡ true) (few :
 
 -- ---- GRG_
 
-plus-zero-is : (x : Float) → T (fits binary32 x) → isPlusZero x ≡ true → x ≡ ofBits binary32 0
+pub plus-zero-is : (x : Float) → T (fits binary32 x) → isPlusZero x ≡ true → x ≡ ofBits binary32 0
 plus-zero-is x f h = sym (ofBits-toBits binary32 x f) ∙ ap (ofBits binary32) (eqb-true (toBits binary32 x) 0 (plus-zero-pattern x f ∙ h))
 
 module _ (o : Order) (g : GroupGains) (few : 1 ≤ g .n) (many : g .n ≤ 16) (all : length (g .values) ≡ 16)
