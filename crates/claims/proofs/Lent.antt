@@ -68,7 +68,7 @@ abbrev pub isRefusal : {A : Type 0} → Answer A → Bool
 isRefusal (gives a) = false
 isRefusal (refuses n) = true
 
--- a listing has no room
+-- the answer says that there is no room for the listing
 abbrev pub isNeed : Listed → Bool
 isNeed (Laid n) = false
 isNeed (Needs n) = true
@@ -117,7 +117,7 @@ pub data Lent : Type 0 where
   benchShorts : Lent
   benchPatterns : Lent
 
--- a refusal is false in lay and copy, what a listing needs in lister, 0 in bench, and elsewhere an answer that has a number
+-- What counts as a refusal: false in lay and copy, Needs in lister, 0 in bench, and elsewhere an answer that has a number.
 abbrev pub LeavesLent : Lent → Type 0
 LeavesLent layBytes = Leaves bytes.Post (λ κs r. not r) (λ κs a. a .1 .0 .now) (λ κs s. s .1 .0 .now)
 LeavesLent layShorts = Leaves shorts.Post (λ κs r. not r) (λ κs a. a .1 .1 .0 .now) (λ κs s. s .1 .1 .0 .now)
