@@ -60,7 +60,7 @@ pub enum Copied {
     PastEnd,
     // The cursor is in step with a state that is not good: number 3.
     BadState,
-    // No ready data chunk of the call's width stands at the cursor, or what a step gave is none: number 35.
+    // What stands at the cursor, or what a step gave, is not data that is ready and of this call's width: number 35.
     NotReady,
     // The chunk has no such channel: number 34.
     NoChannel,
