@@ -48,6 +48,23 @@ pub fn small(order: Order, bytes: usize) -> Vec<u8> {
     stream.into_bytes()
 }
 
+/// Small data chunks of the six kinds in turn, over and over: four pairs, or eight real numbers, in each, and each ready.
+pub fn small_data(order: Order, bytes: usize) -> Vec<u8> {
+    let offsets: Vec<i32> = (0..CHANNELS as i32).collect();
+    let mut stream = metas(order, true, CHANNELS as i32, &offsets);
+    let (shorts, patterns) = ([-2; 2 * CHANNELS], [0x3F80_0000; 2 * CHANNELS]);
+    while stream.len() < bytes {
+        stream
+            .shorts(Kind::Ssnc, 5, &shorts)
+            .shorts(Kind::Ssnr, 5, &shorts)
+            .patterns(Kind::Sfnc, 5, &patterns)
+            .patterns(Kind::Sfnr, 5, &patterns)
+            .shorts(Kind::Gsnc, 5, &shorts)
+            .patterns(Kind::Gfnc, 5, &patterns);
+    }
+    stream.into_bytes()
+}
+
 /// Large data chunks, each ready.
 pub fn large(order: Order, bytes: usize) -> Vec<u8> {
     let mut stream = metas(order, true, 1, &[0]);

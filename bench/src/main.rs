@@ -88,6 +88,7 @@ fn steps(rows: &mut Vec<Row>) {
     for order in [Order::Big, Order::Little] {
         for (what, s) in [
             ("small meta chunks", inputs::small(order, MIB)),
+            ("small data chunks", inputs::small_data(order, MIB)),
             ("large data chunks", inputs::large(order, 16 * MIB)),
         ] {
             let work = format!("step, {what}, {}", order.name());
