@@ -76,8 +76,31 @@ pub const IQDC: u32 = 0x49514443;
 
 pub const TEXT: u32 = 0x54455854;
 
-// The kind of a type; Unknown where no kind has it.
+// The kind of a type; Unknown where no kind has it. Nearly every chunk is data, so the six data codes are compared
+// first: those of groups are below SFNC, those of single channels are not.
 pub fn kind_of(code: u32) -> Kind
+    ensures { λ r. ⌜ r ≡ kindOf code ⌝ }
+{
+    if code < SFNC {
+        match code {
+            GSNC => Kind::GSNC,
+            GFNC => Kind::GFNC,
+            _ => any_kind_of(code),
+        }
+    } else {
+        match code {
+            SSNC => Kind::SSNC,
+            SSNR => Kind::SSNR,
+            SFNC => Kind::SFNC,
+            SFNR => Kind::SFNR,
+            _ => any_kind_of(code),
+        }
+    }
+}
+
+// The kind of a type, by the whole table. A compiler that inlined it would make one search tree of its comparisons and
+// of those with the data codes above; with all 22 types, and called from two places, it is too long to be inlined.
+fn any_kind_of(code: u32) -> Kind
     ensures { λ r. ⌜ r ≡ kindOf code ⌝ }
 {
     match code {
