@@ -284,6 +284,7 @@ fn writes(rows: &mut Vec<Row>) {
     for order in [Order::Little, Order::Big] {
         for (what, s) in [
             ("small records", inputs::small(order, MIB / 16)),
+            ("small data records", inputs::small_data(order, MIB / 16)),
             ("large records", inputs::large(order, MIB / 2)),
         ] {
             let work = format!("write, {what}, {}", order.name());
