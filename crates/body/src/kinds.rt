@@ -98,8 +98,9 @@ pub fn kind_of(code: u32) -> Kind
     }
 }
 
-// The kind of a type, by the whole table. A compiler that inlined it would make one search tree of its comparisons and
-// of those with the data codes above; with all 22 types, and called from two places, it is too long to be inlined.
+// The kind of a type, by the whole table. The data types stand here too, though `kind_of` has passed them: with all 22
+// types, and called from two places, this function is too long to be inlined. A compiler that inlined it would make one
+// search tree of these comparisons and of those with the data codes.
 fn any_kind_of(code: u32) -> Kind
     ensures { λ r. ⌜ r ≡ kindOf code ⌝ }
 {
