@@ -40,7 +40,7 @@ sound-frames o p step st [] h = (tt, tt)
 sound-frames o p step st (Frames.chunk code body ∷ fs) h =
     let t = sound-frames o (p + 12 + length body) true (effect o (kindOf code) body (before step st) .after) fs (h .1) in
     ((refl, t .0), (formed-by o code body (before step st) (verdict o (kindOf code) body) refl (h .0), t .1))
-sound-frames o p step st (Frames.skipped bytes ∷ fs) h = let z : _≡_ {A = ℕ} 0 1 = cc (h .0) in absurd (omega arith)
+sound-frames o p step st (Frames.skipped stray bytes ∷ fs) h = let z : _≡_ {A = ℕ} 0 1 = cc (h .0) in absurd (omega arith)
 sound-frames o p step st (Frames.unfinished bytes ∷ fs) h = let z : _≡_ {A = ℕ} 0 1 = cc (h .0) in absurd (omega arith)
 
 -- Where every item of a stream is a chunk that the reader refuses with none of 11 to 15, the stream's records, written one after the

@@ -9,11 +9,13 @@ use Rattle.num.specs.declared.Order.{Order}
 use Rattle.num.specs.declared.Order.the-variants.{Big, Little}
 use Rattle.effect.specs.Says.{Says, ok, unknown, bad, waits, ready}
 use Rattle.filecheck.specs.File.{FileAnswer, good, refused}
+use Rattle.reader.specs.declared.Cause.{Cause}
+use Rattle.reader.specs.declared.Cause.the-variants.{Searching, NoSync, Large, Uneven}
 use Rattle.reader.specs.Item.{Item, end, skipped, unfinished, chunk}
 use Rattle.listing.specs.Text.{textOf, shown}
 use Rattle.listing.proofs.Shown.{shows-all}
 use Rattle.answers.specs.Refusals.{refusalText}
-use Rattle.answers.specs.Texts.{answerText, orderText, saysText, itemText, writtenText, copiedText, fileText}
+use Rattle.answers.specs.Texts.{answerText, orderText, saysText, causeText, itemText, writtenText, copiedText, fileText}
 use Rattle.answers.proofs.Rows.{refusal-short}
 
 pub refusal-shown : (n : ℕ) → shown (textOf (refusalText n)) ≡ refusalText n
@@ -41,9 +43,18 @@ says-short (ready d) = omega arith
 pub says-shown : (s : Says) → shown (textOf (saysText s)) ≡ saysText s
 says-shown s = shows-all (saysText s) (says-short s)
 
+cause-short : (c : Cause) → length (causeText c) ≤ 96
+cause-short Searching = omega arith
+cause-short NoSync = omega arith
+cause-short Large = omega arith
+cause-short Uneven = omega arith
+
+pub cause-shown : (c : Cause) → shown (textOf (causeText c)) ≡ causeText c
+cause-shown c = shows-all (causeText c) (cause-short c)
+
 item-short : (i : Item) → length (itemText i) ≤ 96
 item-short end = omega arith
-item-short (skipped place n) = omega arith
+item-short (skipped place n cause) = cause-short cause
 item-short (unfinished place n) = omega arith
 item-short (chunk place code size says) = says-short says
 

@@ -46,7 +46,7 @@ pub item-refused : (i : Item) → OneOf (0 ∷ 1 ∷ []) (tagOf item.the-type i)
 item-refused items.PastEnd e = refl
 item-refused items.BadState e = refl
 item-refused items.End e = absurd (miss (0 ∷ 1 ∷ []) 2 tt e)
-item-refused (items.Skipped place length) e = absurd (miss (0 ∷ 1 ∷ []) 3 tt e)
+item-refused (items.Skipped place length cause) e = absurd (miss (0 ∷ 1 ∷ []) 3 tt e)
 item-refused (items.Unfinished place length) e = absurd (miss (0 ∷ 1 ∷ []) 4 tt e)
 item-refused (items.Chunk place code size v) e = absurd (miss (0 ∷ 1 ∷ []) 5 tt e)
 

@@ -10,7 +10,7 @@ ghost use Rattle.reader.specs.Item.{itemSaid};
 ghost use Rattle.samples.specs.Copy.{copiedSaid};
 ghost use Rattle.writer.specs.Write.{writtenSaid};
 ghost use Rattle.answers.specs.Refusals.{refusalText};
-ghost use Rattle.answers.specs.Texts.{answerText, orderText, saysText, itemText, writtenText, copiedText, fileText};
+ghost use Rattle.answers.specs.Texts.{answerText, orderText, saysText, causeText, itemText, writtenText, copiedText, fileText};
 use body::Fault;
 use effect::Lack;
 use effect::Verdict;
@@ -19,6 +19,7 @@ use frame::OrderFound;
 use listing::Text;
 use listing::word;
 use num::Order;
+use reader::Cause;
 use reader::Item;
 use samples::Copied;
 use writer::Written;
@@ -93,7 +94,19 @@ pub fn verdict(verdict: Verdict) -> Text
     }
 }
 
-// What a step answered: a refusal, the end, a stretch of bytes, or what was said of a chunk.
+// Why bytes were skipped.
+pub fn cause(cause: Cause) -> Text
+    ensures { λ r. ⌜ r ≡ textOf (causeText cause) ⌝ }
+{
+    match cause {
+        Cause::Searching => word(b"skipped bytes, the reader was searching already"),
+        Cause::NoSync => word(b"skipped bytes, no sync word stands where one was due"),
+        Cause::Large => word(b"skipped bytes, the size in the header is over 69632"),
+        Cause::Uneven => word(b"skipped bytes, the size in the header is no multiple of 4"),
+    }
+}
+
+// What a step answered: a refusal, the end, why bytes were skipped, an unfinished end, or what was said of a chunk.
 pub fn item(item: Item) -> Text
     ensures { λ r. ⌜ r ≡ textOf (answerText itemText (itemSaid item)) ⌝ }
 {
@@ -103,7 +116,8 @@ pub fn item(item: Item) -> Text
         Item::Skipped {
             place: _,
             length: _,
-        } => word(b"skipped bytes"),
+            cause: why,
+        } => cause(why),
         Item::Unfinished {
             place: _,
             length: _,

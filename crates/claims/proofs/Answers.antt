@@ -1,5 +1,6 @@
 -- The text of each answer is the one that a definition gives.
 use mathlib.Core.Path.{sym, _∙_}
+use Rattle.answers.proofs.cause.Reads as cause
 use Rattle.answers.proofs.copied.Reads as copied
 use Rattle.answers.proofs.fault.Reads as fault
 use Rattle.answers.proofs.file.Reads as file
@@ -25,6 +26,9 @@ lack-text-one-answer κs a r r′ s s′ p q = p ∙ sym q
 
 pub verdict-text-one-answer : OneAnswer verdict.Post
 verdict-text-one-answer κs a r r′ s s′ p q = p ∙ sym q
+
+pub cause-text-one-answer : OneAnswer cause.Post
+cause-text-one-answer κs a r r′ s s′ p q = p ∙ sym q
 
 pub item-text-one-answer : OneAnswer item.Post
 item-text-one-answer κs a r r′ s s′ p q = p ∙ sym q

@@ -72,7 +72,7 @@ abbrev pub Idle : declared.Item → Type 0
 Idle PastEnd = Unit {0}
 Idle BadState = Unit {0}
 Idle End = ⊥
-Idle (Skipped place length) = Unit {0}
+Idle (Skipped place length cause) = Unit {0}
 Idle (Unfinished place length) = ⊥
 Idle (Chunk place code size v) = ⊥
 
@@ -80,7 +80,7 @@ idle-said : (i : declared.Item) {p code size : ℕ} {says : Says} → Idle i →
 idle-said PastEnd h e = let z : _≡_ {A = ℕ} 0 1 = cc in absurd (omega arith)
 idle-said BadState h e = let z : _≡_ {A = ℕ} 0 1 = cc in absurd (omega arith)
 idle-said End h e = h
-idle-said (Skipped place length) h e = let z : _≡_ {A = ℕ} 0 1 = cc in absurd (omega arith)
+idle-said (Skipped place length cause) h e = let z : _≡_ {A = ℕ} 0 1 = cc in absurd (omega arith)
 idle-said (Unfinished place length) h e = h
 idle-said (Chunk place code size v) h e = h
 

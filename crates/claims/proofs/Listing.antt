@@ -8,6 +8,7 @@ use Rattle.listing.proofs.long_line.Reads as long_line
 use Rattle.listing.proofs.none_line.Reads as none_line
 use Rattle.listing.proofs.piece_at.Reads as piece_at
 use Rattle.listing.proofs.word.Reads as word
+use Rattle.listing.proofs.words.cause.Reads as cause
 use Rattle.listing.proofs.words.decimal.Reads as decimal
 use Rattle.listing.proofs.words.hex_word.Reads as hex_word
 use Rattle.listing.proofs.words.label.Reads as label
@@ -50,6 +51,9 @@ short-one-answer κs a r r′ s s′ p q = p ∙ sym q
 
 pub hex-word-one-answer : OneAnswer hex_word.Post
 hex-word-one-answer κs a r r′ s s′ p q = p ∙ sym q
+
+pub cause-one-answer : OneAnswer cause.Post
+cause-one-answer κs a r r′ s s′ p q = p ∙ sym q
 
 pub label-one-answer : OneAnswer label.Post
 label-one-answer κs a r r′ s s′ p q = p ∙ sym q

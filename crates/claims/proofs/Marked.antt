@@ -20,7 +20,7 @@ use Rattle.reader.specs.Items.{Given, itemsFrom, items}
 use Rattle.reader.specs.Step.{newCursor, stepOf}
 use Rattle.listing.specs.Digits.{decimal, decimalBy, hexDigits}
 use Rattle.listing.specs.Lines.{countLine, stretchLine, chunkLine, listing}
-use Rattle.claims.specs.Marked.{Stream, table, example, exampleText}
+use Rattle.claims.specs.Marked.{Stream, table, inStep, example, exampleText}
 
 -- the items of a stream in big order
 abbrev pub read : List ℕ → List Item
@@ -30,6 +30,11 @@ read s = map (λ (g : Given). g .item) (items Big s)
 pub marked-cases : (length table ≡ 12) × (map (map (λ (s : Stream). read (s .bytes))) table ≡ map (map (λ (s : Stream). s .holds)) table) × (stepOf Big [] newCursor .item ≡ gives end)
 unfolding stepOf table itemsFrom framesBy gap shows starts kindOf kindIn known effect text texts zeros runBy firstFit fits listed packed offsetAt each upto groupCovers covers total
 marked-cases = (refl, refl, refl)
+
+-- and those that skip have these causes where a reader comes to them in step
+pub marked-in-step : map (λ (s : Stream). read (s .bytes)) inStep ≡ map (λ (s : Stream). s .holds) inStep
+unfolding inStep itemsFrom framesBy gap shows starts kindOf kindIn known effect
+marked-in-step = refl
 
 -- the order of the example is found, it has 73 bytes, and its listing is the text
 pub listing-example : (orderOf example ≡ gives Big) × (length example ≡ 73) × (listing Big (length example) (read example) ≡ exampleText)

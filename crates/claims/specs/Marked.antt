@@ -5,6 +5,7 @@ use mathlib.Core.List.{List, [], _∷_, _++_}
 use lib.IntN.{pos}
 use lib.ListN.{length}
 use Rattle.effect.specs.Says.{Says, ok, bad, ready}
+use Rattle.reader.specs.declared.Cause.the-variants.{Searching, NoSync, Large, Uneven}
 use Rattle.reader.specs.Item.{Item, skipped, unfinished, chunk}
 
 -- a stream, and its items
@@ -45,7 +46,7 @@ table =
     -- 1: empty
     (record { bytes = []; holds = [] } ∷ [])
     -- 2: three bytes of a sync word
-    ∷ (record { bytes = 0xA1 ∷ 0xB2 ∷ 0xC3 ∷ []; holds = skipped 0 3 ∷ [] } ∷ [])
+    ∷ (record { bytes = 0xA1 ∷ 0xB2 ∷ 0xC3 ∷ []; holds = skipped 0 3 Searching ∷ [] } ∷ [])
     -- 3: an IQDC chunk
     ∷ (record { bytes = iqdc; holds = chunk 0 0x49514443 0 ok ∷ [] } ∷ [])
     -- 4: its first 8 bytes
@@ -53,13 +54,16 @@ table =
     -- 5: a size of 69,632 and no body
     ∷ (record { bytes = header ++ 0 ∷ 1 ∷ 0x10 ∷ 0 ∷ []; holds = unfinished 0 12 ∷ [] } ∷ [])
     -- 6: a size of 69,636
-    ∷ (record { bytes = header ++ 0 ∷ 1 ∷ 0x10 ∷ 4 ∷ []; holds = skipped 0 12 ∷ [] } ∷ [])
+    ∷ (record { bytes = header ++ 0 ∷ 1 ∷ 0x10 ∷ 4 ∷ []; holds = skipped 0 12 Searching ∷ [] } ∷ [])
     -- 7: a size of 6
-    ∷ (record { bytes = header ++ 0 ∷ 0 ∷ 0 ∷ 6 ∷ []; holds = skipped 0 12 ∷ [] } ∷ [])
+    ∷ (record { bytes = header ++ 0 ∷ 0 ∷ 0 ∷ 6 ∷ []; holds = skipped 0 12 Searching ∷ [] } ∷ [])
     -- 8: half a sync word, then an IQDC chunk
-    ∷ (record { bytes = 0xA1 ∷ 0xB2 ∷ iqdc; holds = skipped 0 2 ∷ chunk 2 0x49514443 0 ok ∷ [] } ∷ [])
+    ∷ (record { bytes = 0xA1 ∷ 0xB2 ∷ iqdc; holds = skipped 0 2 Searching ∷ chunk 2 0x49514443 0 ok ∷ [] } ∷ [])
     -- 9: a sync word, then an IQDC chunk
-    ∷ (record { bytes = 0xA1 ∷ 0xB2 ∷ 0xC3 ∷ 0xD4 ∷ iqdc; holds = skipped 0 4 ∷ chunk 4 0x49514443 0 ok ∷ [] } ∷ [])
+    ∷ (record {
+      bytes = 0xA1 ∷ 0xB2 ∷ 0xC3 ∷ 0xD4 ∷ iqdc;
+      holds = skipped 0 4 Searching ∷ chunk 4 0x49514443 0 ok ∷ [];
+    } ∷ [])
     -- 10: SIQP with 2
     ∷ (record { bytes = whole 0x53 0x49 0x51 0x50 (0 ∷ 0 ∷ 0 ∷ 2 ∷ []); holds = chunk 0 0x53495150 4 (bad 12) ∷ [] } ∷
     [])
@@ -69,6 +73,26 @@ table =
     -- 12: offsets 0 and 2, and offsets 0 and 1
     ∷ (record { bytes = four 2; holds = grouped (ready (record { time = pos 5; samples = 4 })) }
     ∷ record { bytes = four 1; holds = grouped (bad 16) } ∷ [])
+    ∷ []
+
+-- bytes behind an IQDC chunk, to which a reader comes in step
+abbrev pub behind : List ℕ → List Item → Stream
+behind bytes items = record { bytes = iqdc ++ bytes; holds = chunk 0 0x49514443 0 ok ∷ items }
+
+-- The cases that skip, as a reader in step meets their bytes. In 9 the four bytes of the chunk's type stand where the
+-- header that begins before it has its size.
+unfoldable pub inStep : List Stream
+inStep =
+    -- 2
+    behind (0xA1 ∷ 0xB2 ∷ 0xC3 ∷ []) (skipped 12 3 NoSync ∷ [])
+    -- 6
+    ∷ behind (header ++ 0 ∷ 1 ∷ 0x10 ∷ 4 ∷ []) (skipped 12 12 Large ∷ [])
+    -- 7
+    ∷ behind (header ++ 0 ∷ 0 ∷ 0 ∷ 6 ∷ []) (skipped 12 12 Uneven ∷ [])
+    -- 8
+    ∷ behind (0xA1 ∷ 0xB2 ∷ iqdc) (skipped 12 2 NoSync ∷ chunk 14 0x49514443 0 ok ∷ [])
+    -- 9
+    ∷ behind (0xA1 ∷ 0xB2 ∷ 0xC3 ∷ 0xD4 ∷ iqdc) (skipped 12 4 Large ∷ chunk 16 0x49514443 0 ok ∷ [])
     ∷ []
 
 -- the example of the listing: 00 A1 B2; a CF__ of 1000; an IQDC; a type that no kind has; an SSNC, time 5, pair 1, -1;

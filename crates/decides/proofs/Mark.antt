@@ -61,7 +61,7 @@ module _ (o : Order) where
   ahead-mark l c (Chunk code size) = effect-mark (kindOf code) _ (found c)
   ahead-mark l c End = refl
   ahead-mark l c Cut = refl
-  ahead-mark l c Stretch = refl
+  ahead-mark l c (Stretch stray) = refl
 
   tests-mark : (l : List ℕ) (c : Cursor) (a b : Bool) →
       let t : Step = pick a (refused 2 c) (pick b (refused 3 c) (stepBy o l c (aheadOf o l))) in

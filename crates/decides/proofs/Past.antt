@@ -14,7 +14,7 @@ use Rattle.frame.specs.Place.{gap}
 use Rattle.frame.specs.Ahead.{aheadOf}
 use Rattle.frame.specs.declared.Ahead.{Ahead}
 use Rattle.frame.specs.declared.Ahead.the-variants.{End, Stretch, Cut, Chunk}
-use Rattle.frame.proofs.Looks.{is-chunk, is-cut, is-stretch, is-end}
+use Rattle.frame.proofs.Looks.{is-chunk, is-cut, is-end}
 use Rattle.frame.proofs.Frames.{gap-le, frames-nil, frames-chunk, frames-cut, frames-skip}
 use Rattle.reader.specs.Step.{Step, stepBy, stepOf, after, Fit}
 use Rattle.reader.specs.declared.Cursor.{Cursor}
@@ -36,9 +36,9 @@ module _ (o : Order) (s : List ℕ) (c : Cursor) (h : c .place < length s) where
       let q : c .place + (12 + length (take size (drop 12 (drop (c .place) s)))) ≡ c .place + 12 + size = omega arith in
       record { frame = chunk code (take size (drop 12 (drop (c .place) s))); ahead = frames-chunk o s (c .place) h code size k; stands = rw q }
   passes-by Cut e = record { frame = unfinished (drop (c .place) s); ahead = frames-cut o s (c .place) h (is-cut o (drop (c .place) s) e); stands = refl }
-  passes-by Stretch e = record {
-    frame = skipped (take (gap o (drop (c .place) s)) (drop (c .place) s));
-    ahead = frames-skip o s (c .place) h (is-stretch o (drop (c .place) s) e);
+  passes-by (Stretch stray) e = record {
+    frame = skipped stray (take (gap o (drop (c .place) s)) (drop (c .place) s));
+    ahead = frames-skip o s (c .place) h stray e;
     stands = rw (length-take-le (gap o (drop (c .place) s)) (drop (c .place) s) (gap-le o (drop (c .place) s)));
   }
   passes-by End e = absurd (omega (arith, is-end o (drop (c .place) s) e, length-drop (c .place) s))

@@ -21,7 +21,7 @@ use Rattle.effect.specs.Ready.{ofGroup, inGroup}
 -- a skipped stretch, at which the step is lost
 abbrev pub isSkipped : Frame → Bool
 isSkipped (chunk code body) = false
-isSkipped (skipped bytes) = true
+isSkipped (skipped stray bytes) = true
 isSkipped (unfinished bytes) = false
 
 -- no chunk, or a chunk by its type and its body

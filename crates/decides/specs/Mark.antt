@@ -36,7 +36,7 @@ chunkDoes Table.unknown says = leavesIt
 -- a skipped stretch: the next chunk regains the step, which sets the mark
 abbrev pub isStretch : Item → Bool
 isStretch end = false
-isStretch (skipped place n) = true
+isStretch (skipped place n cause) = true
 isStretch (unfinished place n) = false
 isStretch (chunk place code size says) = false
 

@@ -11,6 +11,7 @@ use lib.Seq.{drop-drop}
 use borrow.Author.Tests.{eqb-true, eqb-false}
 use Rattle.num.specs.declared.Order.{Order}
 use Rattle.frame.specs.Place.{shows, gap}
+use Rattle.frame.specs.declared.Stray.{Stray}
 use Rattle.frame.specs.declared.At.the-variants.{Complete}
 use Rattle.frame.proofs.Laws.{search-at}
 use Rattle.frame.proofs.Theorems.{search-stopped}
@@ -79,14 +80,13 @@ module _ (o : Order) (s : List ℕ) (c : Cursor) (p : ℕ) (f : AcceptsFirstAt o
       let e : cursorAt (c .place) (c .«in_step») (c .state) ≡ reached p c = rw (eqb-true (c .place) p h, f .searching) in
       e
 
-  skips-there : eqb (c .place) p ≡ false → stepOf o s c ≡ skips c (p - c .place)
+  skips-there : eqb (c .place) p ≡ false → (stray : Stray) × (stepOf o s c ≡ skips c stray (p - c .place))
   skips-there n =
       let h = search-stopped o s (c .place) p (f .stopped) in
       let u : c .place < p = omega (arith, h .low, eqb-false (c .place) p n) in
       let g : gap o (drop (c .place) s) ≡ p - c .place = omega (arith, search-at o s (c .place) p (f .stopped) .0) in
-      step-ahead o s c (omega (arith, inside)) searching-fit
-      ∙ step-skips o (drop (c .place) s) c (omega (arith, length-drop (c .place) s, inside)) (h .before (c .place) (omega arith) u)
-      ∙ rw g
+      let w = step-skips o (drop (c .place) s) c (omega (arith, length-drop (c .place) s, inside)) (h .before (c .place) (omega arith) u) in
+      (w .0, step-ahead o s c (omega (arith, inside)) searching-fit ∙ w .1 ∙ rw g)
 
   skipped-to : eqb (c .place) p ≡ false → c .place + (p - c .place) ≡ p
   skipped-to n = omega (arith, search-stopped o s (c .place) p (f .stopped) .low)
@@ -94,7 +94,7 @@ module _ (o : Order) (s : List ℕ) (c : Cursor) (p : ℕ) (f : AcceptsFirstAt o
   lead-by : (b : Bool) → eqb (c .place) p ≡ b → after (lead p c) o s c ≡ reached p c
   unfolding after
   lead-by true h = rw h (stands-there h)
-  lead-by false h = rw h (ap (λ (t : Step). t .cursor) (skips-there h) ∙ rw (skipped-to h))
+  lead-by false h = rw h (ap (λ (t : Step). t .cursor) (skips-there h .1) ∙ rw (skipped-to h))
 
   -- so many steps lead there
   pub leads : after (lead p c) o s c ≡ reached p c
@@ -122,7 +122,7 @@ module _ (o : Order) (s : List ℕ) (c : Cursor) (p : ℕ) (f : AcceptsFirstAt o
   unfolding reading fromChunk
   items-by true h = ap (λ (d : Cursor). fromChunk (reading (suc (length s)) o s d)) (stands-there h) ∙ reached-items (suc (length s)) (omega arith)
   items-by false h =
-      rw (skips-there h, skipped-to h)
+      rw (skips-there h .1, skipped-to h)
       (reached-items (length s) (omega (arith, search-stopped o s (c .place) p (f .stopped) .low, eqb-false (c .place) p h)))
 
   -- the items from the first chunk on are those of the bytes from there on, each place that much further on
@@ -139,7 +139,7 @@ module _ (o : Order) (s : List ℕ) (c : Cursor) (p : ℕ) (f : AcceptsFirstAt o
   begins-by : (b : Bool) → eqb (c .place) p ≡ b → BeginsAt p (fromChunk (reading (suc (length s)) o s c))
   unfolding reading fromChunk
   begins-by true h = subst (λ (d : Cursor). BeginsAt p (fromChunk (reading (suc (length s)) o s d))) (sym (stands-there h)) (begins-there (suc (length s)) (omega arith))
-  begins-by false h = rw (skips-there h, skipped-to h) (begins-there (length s) (omega (arith, inside)))
+  begins-by false h = rw (skips-there h .1, skipped-to h) (begins-there (length s) (omega (arith, inside)))
 
   -- stands at that place
   pub first-begins : BeginsAt p (fromChunk (reading (suc (length s)) o s c))

@@ -49,8 +49,8 @@ module _ (o : Order) (s : List ℕ) (p : ℕ) where
       let u : unfit d ≡ false = rw k in
       let n = length-drop (d .place) s in
       absurd (end-none f (cursorAt (d .place + length (drop (d .place) s)) (d .«in_step») (d .state)) (omega arith) u (rw (step-ahead o s d (omega arith) u, e) at b))
-  here-by f d Stretch e t k h b =
-      let n = is-stretch o (drop (d .place) s) e in
+  here-by f d (Stretch stray) e t k h b =
+      let n = is-stretch o (drop (d .place) s) stray e in
       let z : _≡_ {A = ℕ} 0 1 = cc in
       absurd (omega arith)
   here-by f d End e t k h b = absurd (omega (arith, is-end o (drop (d .place) s) e, length-drop (d .place) s))
@@ -89,7 +89,8 @@ module _ (o : Order) (s : List ℕ) (c : Cursor) (k : c .«in_step» ≡ false) 
   first-by p false t h b =
       let u : unfit c ≡ false = rw k in
       let g = gap o (drop (c .place) s) in
-      let e : stepOf o s c ≡ skips c g = step-ahead o s c (omega arith) u ∙ step-skips o (drop (c .place) s) c (simp length-drop (omega arith)) t in
+      let w = step-skips o (drop (c .place) s) c (simp length-drop (omega arith)) t in
+      let e : stepOf o s c ≡ skips c (w .0) g = step-ahead o s c (omega arith) u ∙ w .1 in
       skipped-by p (ltb (c .place + g) (length s)) refl (omega arith) (rw e at b)
 
   in-by : (p : ℕ) (b : Bool) → ltb (c .place) (length s) ≡ b → c .place ≤ length s → BeginsAt p (fromChunk (reading (suc (length s)) o s c)) → AcceptsFirstAt o s c p
@@ -108,5 +109,6 @@ pub lost-first : (o : Order) (s : List ℕ) (c : Cursor) (p code size : ℕ) →
 lost-first o s c p code size u h n w e =
     let a = search-at o s (c .place) p w in
     let t : stops (shows o (drop p s)) ≡ true = rw e in
-    let i : stepOf o s c ≡ skips c (gap o (drop (c .place) s)) = step-ahead o s c (omega arith) u ∙ step-skips o (drop (c .place) s) c (simp length-drop (omega arith)) n in
+    let k = step-skips o (drop (c .place) s) c (simp length-drop (omega arith)) n in
+    let i : stepOf o s c ≡ skips c (k .0) (gap o (drop (c .place) s)) = step-ahead o s c (omega arith) u ∙ k .1 in
     rw (i, a .0) (record { searching = refl; stopped = search-here o s p p (a .1) t refl; code = code; size = size; complete = e })

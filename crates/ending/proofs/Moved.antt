@@ -38,7 +38,7 @@ module _ (o : Order) (p : ℕ) (c : Cursor) where
       let q : p + c .place + 12 + size ≡ p + (c .place + 12 + size) = omega arith in
       rw q
   at-moved l Cut = let q : p + c .place + length l ≡ p + (c .place + length l) = omega arith in rw q
-  at-moved l Stretch = let q : p + c .place + gap o l ≡ p + (c .place + gap o l) = omega arith in rw q
+  at-moved l (Stretch stray) = let q : p + c .place + gap o l ≡ p + (c .place + gap o l) = omega arith in rw q
 
   tests-moved : (l : List ℕ) (a b : Bool) →
       pick a (refused 2 (cursorBy (onto p) c)) (pick b (refused 3 (cursorBy (onto p) c)) (stepBy o l (cursorBy (onto p) c) (aheadOf o l)))

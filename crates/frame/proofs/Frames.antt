@@ -13,15 +13,18 @@ use Rattle.num.specs.Number.{unsigned, bytesOf}
 use Rattle.num.specs.declared.Order.{Order}
 use Rattle.num.proofs.Laws.{Bytes, bytes-length, read-written, written-read}
 use Rattle.num.proofs.Tests.{both-true}
+use Rattle.frame.specs.declared.BadSize.{BadSize}
 use Rattle.frame.specs.declared.At.{At}
 use Rattle.frame.specs.declared.At.the-variants.{NoSync, Bad, Unfinished, Complete}
-use Rattle.frame.specs.Place.{syncBytes, starts, word, typeIn, sizeIn, goodSize, shows, stops, gap}
+use Rattle.frame.specs.Place.{syncBytes, starts, word, typeIn, sizeIn, goodSize, badSize, shows, stops, gap}
+use Rattle.frame.specs.declared.Stray.{Stray}
+use Rattle.frame.specs.declared.Stray.the-variants as Stray
 use Rattle.frame.specs.declared.Ahead.{Ahead}
 use Rattle.frame.specs.declared.Ahead.the-variants.{End, Stretch, Cut, Chunk}
-use Rattle.frame.specs.Ahead.{aheadOf}
+use Rattle.frame.specs.Ahead.{aheadBy, aheadOf}
 use Rattle.frame.specs.Ahead as Ahead
 use Rattle.frame.specs.Frames.{Frame, chunk, skipped, unfinished, ofChunk, isChunk, chunkBytes, width, frameAt, first, framesBy, frames}
-use Rattle.frame.proofs.Looks.{is-cut, is-stretch, is-end}
+use Rattle.frame.proofs.Looks.{is-cut, is-stretch, is-end, ahead-at}
 use Rattle.frame.proofs.Laws.{sync-length, starts-split, starts-self, take-bytes, drop-bytes, shows-headed, gap-pass}
 
 -- ---- a complete chunk
@@ -34,19 +37,19 @@ pub record Header (o : Order) (l : List ℕ) (t n : ℕ) : Type 0 where
   pub good : goodSize n ≡ true
   pub fits : 12 + n ≤ length l
 
-complete-by : (u m t n : ℕ) (a b c d : Bool) → pick a (pick b Unfinished (pick c (pick d (Complete u m) Unfinished) Bad)) NoSync ≡ Complete t n →
+complete-by : (u m t n : ℕ) (z : BadSize) (a b c d : Bool) → pick a (pick b Unfinished (pick c (pick d (Complete u m) Unfinished) (Bad z))) NoSync ≡ Complete t n →
     (a ≡ true) × (b ≡ false) × (c ≡ true) × (d ≡ true) × (u ≡ t) × (m ≡ n)
-complete-by u m t n true false true true e = (refl, refl, refl, refl, cc, cc)
-complete-by u m t n true false true false e = let z : _≡_ {A = ℕ} 0 1 = cc in absurd (omega arith)
-complete-by u m t n true false false d e = let z : _≡_ {A = ℕ} 0 1 = cc in absurd (omega arith)
-complete-by u m t n true true c d e = let z : _≡_ {A = ℕ} 0 1 = cc in absurd (omega arith)
-complete-by u m t n false b c d e = let z : _≡_ {A = ℕ} 0 1 = cc in absurd (omega arith)
+complete-by u m t n z true false true true e = (refl, refl, refl, refl, cc, cc)
+complete-by u m t n z true false true false e = let z : _≡_ {A = ℕ} 0 1 = cc in absurd (omega arith)
+complete-by u m t n z true false false d e = let z : _≡_ {A = ℕ} 0 1 = cc in absurd (omega arith)
+complete-by u m t n z true true c d e = let z : _≡_ {A = ℕ} 0 1 = cc in absurd (omega arith)
+complete-by u m t n z false b c d e = let z : _≡_ {A = ℕ} 0 1 = cc in absurd (omega arith)
 
 pub complete : (o : Order) (l : List ℕ) (t n : ℕ) → shows o l ≡ Complete t n → Header o l t n
 unfolding shows
 complete o l t n e =
     let m = sizeIn o l in
-    let h = complete-by (typeIn o l) m t n (starts (syncBytes o) l) (ltb (length l) 12) (goodSize m) (leb m (length l - 12)) e in
+    let h = complete-by (typeIn o l) m t n (badSize m) (starts (syncBytes o) l) (ltb (length l) 12) (goodSize m) (leb m (length l - 12)) e in
     record {
       sync = h .0;
       type = h .4;
@@ -123,7 +126,7 @@ takes-by o x l (Complete t n) e =
     record { some = omega arith; most = omega (arith, h .fits) }
 takes-by o x l Unfinished e = record { some = omega arith; most = omega arith }
 takes-by o x l NoSync e = passed-takes o x l (rw e)
-takes-by o x l Bad e = passed-takes o x l (rw e)
+takes-by o x l (Bad b) e = passed-takes o x l (rw e)
 
 pub first-takes : (o : Order) (x : ℕ) (l : List ℕ) → Takes (width (first o (x ∷ l))) (length (x ∷ l))
 first-takes o x l = takes-by o x l (shows o (x ∷ l)) refl
@@ -169,7 +172,7 @@ width-cut o l e = rw e
 
 skip-by : (o : Order) (l : List ℕ) (a : At) → stops a ≡ false → width (frameAt a (gap o l) l) ≡ gap o l
 skip-by o l NoSync h = length-take-le (gap o l) l (gap-le o l)
-skip-by o l Bad h = length-take-le (gap o l) l (gap-le o l)
+skip-by o l (Bad b) h = length-take-le (gap o l) l (gap-le o l)
 skip-by o l Unfinished h = let z : _≡_ {A = ℕ} 0 1 = cc in absurd (omega arith)
 skip-by o l (Complete t n) h = let z : _≡_ {A = ℕ} 0 1 = cc in absurd (omega arith)
 
@@ -207,21 +210,24 @@ module _ (o : Order) (s : List ℕ) (p : ℕ) (h : p < length s) where
   pub frames-cut : shows o (drop p s) ≡ Unfinished → frames o (drop p s) ≡ unfinished (drop p s) ∷ frames o (drop (p + length (drop p s)) s)
   frames-cut e = moves o s p h .rest ∙ rw (width-cut o (drop p s) e, e)
 
-  passed : (a : At) → shows o (drop p s) ≡ a → stops a ≡ false → first o (drop p s) ≡ skipped (take (gap o (drop p s)) (drop p s))
-  passed NoSync e k = rw e
-  passed Bad e k = rw e
-  passed Unfinished e k = let z : _≡_ {A = ℕ} 0 1 = cc in absurd (omega arith)
-  passed (Complete t n) e k = let z : _≡_ {A = ℕ} 0 1 = cc in absurd (omega arith)
+  passed : (a : At) (stray : Stray) → shows o (drop p s) ≡ a → aheadBy a ≡ Stretch stray → first o (drop p s) ≡ skipped stray (take (gap o (drop p s)) (drop p s))
+  passed NoSync stray e k = let q : Stray.NoSync ≡ stray = cc in rw (e, q)
+  passed (Bad b) stray e k = let q : Stray.Bad b ≡ stray = cc in rw (e, q)
+  passed Unfinished stray e k = let z : _≡_ {A = ℕ} 0 1 = cc in absurd (omega arith)
+  passed (Complete t n) stray e k = let z : _≡_ {A = ℕ} 0 1 = cc in absurd (omega arith)
 
-  pub frames-skip : stops (shows o (drop p s)) ≡ false → frames o (drop p s) ≡ skipped (take (gap o (drop p s)) (drop p s)) ∷ frames o (drop (p + gap o (drop p s)) s)
-  frames-skip k = moves o s p h .rest ∙ rw (width-skip o (drop p s) k, passed (shows o (drop p s)) refl k)
+  pub frames-skip : (stray : Stray) → aheadOf o (drop p s) ≡ Stretch stray → frames o (drop p s) ≡ skipped stray (take (gap o (drop p s)) (drop p s)) ∷ frames o (drop (p + gap o (drop p s)) s)
+  frames-skip stray k =
+      let n : 0 < length (drop p s) = simp length-drop (omega arith) in
+      moves o s p h .rest
+      ∙ rw (width-skip o (drop p s) (is-stretch o (drop p s) stray k), passed (shows o (drop p s)) stray refl (sym (ahead-at o (drop p s) n) ∙ k))
 
   -- where no chunk is ahead the first frame is none, and what is said of any such is said of the frames
   pub no-chunk : {X : Type 0} (said : List Frame → X) (x : X) → ((f : Frame) (rest : List Frame) → isChunk f ≡ false → said (f ∷ rest) ≡ x) →
       (a : Ahead) → aheadOf o (drop p s) ≡ a → Ahead.isChunk a ≡ false → said (frames o (drop p s)) ≡ x
   no-chunk said x k End e n = absurd (omega (arith, is-end o (drop p s) e, length-drop p s))
   no-chunk said x k Cut e n = ap said (frames-cut (is-cut o (drop p s) e)) ∙ k _ _ refl
-  no-chunk said x k Stretch e n = ap said (frames-skip (is-stretch o (drop p s) e)) ∙ k _ _ refl
+  no-chunk said x k (Stretch stray) e n = ap said (frames-skip stray e) ∙ k _ _ refl
   no-chunk said x k (Chunk code size) e n = let z : _≡_ {A = ℕ} 0 1 = cc in absurd (omega arith)
 
 -- a chunk that was read has a good size
@@ -232,7 +238,7 @@ sized-by o l (Complete t n) e =
     rw m (k .good)
 sized-by o l Unfinished e = tt
 sized-by o l NoSync e = tt
-sized-by o l Bad e = tt
+sized-by o l (Bad b) e = tt
 
 pub first-sized : (o : Order) (l : List ℕ) → ofChunk (Unit {0}) (λ type body. goodSize (length body) ≡ true) (first o l)
 first-sized o l = sized-by o l (shows o l) refl

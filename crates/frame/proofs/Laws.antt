@@ -23,7 +23,7 @@ use Rattle.frame.specs.declared.At.the-variants.{NoSync, Bad, Unfinished
 use Rattle.frame.specs.declared.Found.{Found}
 use Rattle.frame.specs.declared.Found.the-variants.{Place, Nothing}
 use Rattle.frame.proofs.At.{the-type}
-use Rattle.frame.specs.Place.{syncBytes, starts, word, typeIn, sizeIn, goodSize, shows, stops, gap, searchFrom, orderOf}
+use Rattle.frame.specs.Place.{syncBytes, starts, word, typeIn, sizeIn, goodSize, badSize, shows, stops, gap, searchFrom, orderOf}
 
 -- ---- the front of a list
 
@@ -104,7 +104,7 @@ first-word o s p h = at-some 4 o s p h
 
 -- the answer where the sync word and a whole header stand, by the type, the size and how many bytes follow
 abbrev pub headed : ℕ → ℕ → ℕ → At
-headed t n left = pick (goodSize n) (pick (leb n left) (Complete t n) Unfinished) Bad
+headed t n left = pick (goodSize n) (pick (leb n left) (Complete t n) Unfinished) (Bad (badSize n))
 
 module _ (o : Order) (l : List ℕ) where
   pub shows-none : starts (syncBytes o) l ≡ false → shows o l ≡ NoSync
@@ -183,14 +183,14 @@ search-end o s from e = let a = from + gap o (drop from s) in nothing-by a (leng
 pub stop-told : (a : At) → (tagOf the-type a ≡ 3) ⊎ (tagOf the-type a ≡ 2) → stops a ≡ true
 stop-told NoSync (inl e) = absurd (omega arith)
 stop-told NoSync (inr e) = absurd (omega arith)
-stop-told Bad (inl e) = absurd (omega arith)
-stop-told Bad (inr e) = absurd (omega arith)
+stop-told (Bad size) (inl e) = absurd (omega arith)
+stop-told (Bad size) (inr e) = absurd (omega arith)
 stop-told Unfinished e = refl
 stop-told (Complete code size) e = refl
 
 pub pass-told : (a : At) → (tagOf the-type a ≡ 0) ⊎ (tagOf the-type a ≡ 1) → stops a ≡ false
 pass-told NoSync e = refl
-pass-told Bad e = refl
+pass-told (Bad size) e = refl
 pass-told Unfinished (inl e) = absurd (omega arith)
 pass-told Unfinished (inr e) = absurd (omega arith)
 pass-told (Complete code size) (inl e) = absurd (omega arith)

@@ -33,7 +33,7 @@ front-by o l (Complete t n) e g =
     rw m (rw m at (chunk-back o l t n g h))
 front-by o l Unfinished e g = rw (drop-length l) (append-nil l)
 front-by o l NoSync e g = rw (length-take-le (gap o l) l (gap-le o l)) (take-append-drop (gap o l) l)
-front-by o l Bad e g = rw (length-take-le (gap o l) l (gap-le o l)) (take-append-drop (gap o l) l)
+front-by o l (Bad b) e g = rw (length-take-le (gap o l) l (gap-le o l)) (take-append-drop (gap o l) l)
 
 whole-by : (f : ℕ) (o : Order) (l : List ℕ) → length l ≤ f → Bytes l → flatten (map (frameBytes o) (framesBy f o l)) ≡ l
 unfolding framesBy flatten

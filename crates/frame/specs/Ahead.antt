@@ -6,13 +6,14 @@ use Rattle.num.specs.declared.Order.{Order}
 use Rattle.frame.specs.Place.{shows}
 use Rattle.frame.specs.declared.At.{At}
 use Rattle.frame.specs.declared.At.the-variants.{NoSync, Bad, Unfinished, Complete}
+use Rattle.frame.specs.declared.Stray.the-variants as Stray
 use Rattle.frame.specs.declared.Ahead.{Ahead}
 use Rattle.frame.specs.declared.Ahead.the-variants.{End, Stretch, Cut, Chunk}
 
 -- by what stands at the place
 abbrev pub aheadBy : At → Ahead
-aheadBy NoSync = Stretch
-aheadBy Bad = Stretch
+aheadBy NoSync = Stretch Stray.NoSync
+aheadBy (Bad size) = Stretch (Stray.Bad size)
 aheadBy Unfinished = Cut
 aheadBy (Complete code size) = Chunk code size
 
@@ -23,7 +24,7 @@ aheadOf o (x ∷ l) = aheadBy (shows o (x ∷ l))
 -- what is made of a chunk that is ahead, by its type and its size; of every other case the same is made
 abbrev pub ofChunk {ℓ} : {A : Type ℓ} → A → (ℕ → ℕ → A) → Ahead → A
 ofChunk other f End = other
-ofChunk other f Stretch = other
+ofChunk other f (Stretch stray) = other
 ofChunk other f Cut = other
 ofChunk other f (Chunk code size) = f code size
 

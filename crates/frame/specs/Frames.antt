@@ -7,20 +7,22 @@ use Rattle.num.specs.Number.{bytesOf}
 use Rattle.num.specs.declared.Order.{Order}
 use Rattle.frame.specs.declared.At.{At}
 use Rattle.frame.specs.declared.At.the-variants.{NoSync, Bad, Unfinished, Complete}
+use Rattle.frame.specs.declared.Stray.{Stray}
+use Rattle.frame.specs.declared.Stray.the-variants as Stray
 use Rattle.frame.specs.Place.{headerSize, syncBytes, shows, gap}
 
 pub data Frame : Type 0 where
   -- a chunk, by its type and its body
   chunk : ℕ → List ℕ → Frame
-  -- a stretch that was passed over, by its bytes
-  skipped : List ℕ → Frame
+  -- a stretch that was passed over, by what stands where it begins and its bytes
+  skipped : Stray → List ℕ → Frame
   -- an end that breaks off, by its bytes
   unfinished : List ℕ → Frame
 
 -- what is made of a chunk, by its type and its body; of every other frame the same is made
 abbrev pub ofChunk {ℓ} : {A : Type ℓ} → A → (ℕ → List ℕ → A) → Frame → A
 ofChunk other f (chunk type body) = f type body
-ofChunk other f (skipped bytes) = other
+ofChunk other f (skipped stray bytes) = other
 ofChunk other f (unfinished bytes) = other
 
 abbrev pub isChunk : Frame → Bool
@@ -33,13 +35,13 @@ chunkBytes o type body = syncBytes o ++ (bytesOf o 4 type ++ (bytesOf o 4 (lengt
 -- the bytes that belong to a frame
 abbrev pub frameBytes : Order → Frame → List ℕ
 frameBytes o (chunk type body) = chunkBytes o type body
-frameBytes o (skipped bytes) = bytes
+frameBytes o (skipped stray bytes) = bytes
 frameBytes o (unfinished bytes) = bytes
 
 -- and how many they are
 abbrev pub width : Frame → ℕ
 width (chunk type body) = headerSize + length body
-width (skipped bytes) = length bytes
+width (skipped stray bytes) = length bytes
 width (unfinished bytes) = length bytes
 
 -- the frame at the front, by what stands there: a complete chunk, an unfinished end, or the stretch up to where a
@@ -47,8 +49,8 @@ width (unfinished bytes) = length bytes
 abbrev pub frameAt : At → ℕ → List ℕ → Frame
 frameAt (Complete code size) g l = chunk code (take size (drop headerSize l))
 frameAt Unfinished g l = unfinished l
-frameAt NoSync g l = skipped (take g l)
-frameAt Bad g l = skipped (take g l)
+frameAt NoSync g l = skipped Stray.NoSync (take g l)
+frameAt (Bad size) g l = skipped (Stray.Bad size) (take g l)
 
 abbrev pub first : Order → List ℕ → Frame
 first o l = frameAt (shows o l) (gap o l) l

@@ -10,6 +10,8 @@ use Rattle.num.specs.Choice.{pick, both}
 use Rattle.num.specs.Number.{unsigned, bytesOf}
 use Rattle.num.specs.declared.Order.{Order}
 use Rattle.num.specs.declared.Order.the-variants.{Big, Little}
+use Rattle.frame.specs.declared.BadSize.{BadSize}
+use Rattle.frame.specs.declared.BadSize.the-variants.{Large, Uneven}
 use Rattle.frame.specs.declared.At.{At}
 use Rattle.frame.specs.declared.At.the-variants.{NoSync, Bad, Unfinished, Complete}
 use Rattle.frame.specs.declared.Found.{Found}
@@ -53,6 +55,10 @@ sizeIn o l = word o (drop 8 l)
 abbrev pub goodSize : ℕ → Bool
 goodSize n = both (leb n sizeLimit) (eqb (n % 4) 0)
 
+-- what is wrong with one that is not good: over the limit, a multiple of 4 or not; else it is no multiple of 4
+abbrev pub badSize : ℕ → BadSize
+badSize n = pick (leb n sizeLimit) Uneven Large
+
 -- No sync; or unfinished, fewer than 12 bytes being left; or bad, the size not good; or unfinished, the body not whole;
 -- or complete.
 unfoldable pub shows : Order → List ℕ → At
@@ -61,13 +67,13 @@ shows o l =
     (pick (ltb (length l) headerSize) Unfinished
     (pick (goodSize (sizeIn o l))
     (pick (leb (sizeIn o l) (length l - headerSize)) (Complete (typeIn o l) (sizeIn o l)) Unfinished)
-    Bad))
+    (Bad (badSize (sizeIn o l)))))
     NoSync
 
 -- a search stops at what is complete or unfinished
 abbrev pub stops : At → Bool
 stops NoSync = false
-stops Bad = false
+stops (Bad size) = false
 stops Unfinished = true
 stops (Complete code size) = true
 

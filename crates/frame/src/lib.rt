@@ -8,7 +8,7 @@ ghost use Rattle.num.specs.Answer.{refusal};
 ghost use Rattle.num.specs.Choice.{pick};
 ghost use Rattle.frame.specs.Ahead.{aheadOf};
 ghost use Rattle.frame.specs.Inner.Free.{Free};
-ghost use Rattle.frame.specs.Place.{syncBytes, starts, goodSize, shows, searchFrom, orderOf, orderSaid};
+ghost use Rattle.frame.specs.Place.{syncBytes, starts, goodSize, badSize, shows, searchFrom, orderOf, orderSaid};
 use num::Order;
 
 // The sync word, with which each chunk begins.
@@ -26,24 +26,40 @@ pub const FRONT: usize = 20;
 // The most bytes that a body may have.
 pub const LIMIT: usize = 69632;
 
+// What is wrong with a size that is not good.
+pub enum BadSize {
+    // It is over the limit, a multiple of 4 or not.
+    Large,
+    // It is within the limit, but no multiple of 4.
+    Uneven,
+}
+
 // What stands at a place of a stream. The code is the chunk's type as a number, the size that of its body.
 pub enum At {
     // No sync word.
     NoSync,
     // A whole header, with a size that is not good.
-    Bad,
+    Bad(BadSize),
     // A sync word, and too few bytes behind it for the header or for the body.
     Unfinished,
     // A whole chunk.
     Complete { code: u32, size: usize },
 }
 
+// What stands at a place where no chunk begins.
+pub enum Stray {
+    // No sync word.
+    NoSync,
+    // A bad header.
+    Bad(BadSize),
+}
+
 // What is ahead of a place.
 pub enum Ahead {
     // No byte.
     End,
-    // Bytes that belong to no chunk: no sync word stands there, or a bad header.
-    Stretch,
+    // Bytes that belong to no chunk, and what stands where they begin.
+    Stretch(Stray),
     // A chunk that breaks off at the end of the stream.
     Cut,
     // A whole chunk.
@@ -82,6 +98,17 @@ pub fn good_size(size: usize) -> bool
     (size <= LIMIT) & (size % 4 == 0)
 }
 
+// What is wrong with a size that is not good: one that is over the limit and no multiple of 4 is over the limit.
+fn bad_size(size: usize) -> BadSize
+    ensures { λ r. ⌜ r ≡ badSize size ⌝ }
+{
+    if size <= LIMIT {
+        BadSize::Uneven
+    } else {
+        BadSize::Large
+    }
+}
+
 // What the stream shows at a place where the sync word stands.
 fn headed(order: Order, s: &[u8], place: usize) -> At
     requires { ⌜ (place + 4 ≤ length (now s)) × (starts (syncBytes order) (drop place (now s)) ≡ true) ⌝ }
@@ -94,7 +121,7 @@ fn headed(order: Order, s: &[u8], place: usize) -> At
     let code = num::u32_at(order, s, place + 4);
     let size = num::u32_at(order, s, place + 8) as usize;
     if !good_size(size) {
-        return At::Bad;
+        return At::Bad(bad_size(size));
     }
     if left - HEADER < size {
         return At::Unfinished;
@@ -129,7 +156,8 @@ pub fn ahead_of(order: Order, s: &[u8], place: usize) -> Ahead
     match look(order, s, place) {
         At::Complete { code, size } => Ahead::Chunk { code, size },
         At::Unfinished => Ahead::Cut,
-        At::NoSync | At::Bad => Ahead::Stretch,
+        At::NoSync => Ahead::Stretch(Stray::NoSync),
+        At::Bad(size) => Ahead::Stretch(Stray::Bad(size)),
     }
 }
 
@@ -254,7 +282,7 @@ pub fn search(order: Order, s: &[u8], from: usize) -> Found
                     At::Complete { code: _, size: _ } | At::Unfinished => {
                         break 'places Found::Place(p)
                     }
-                    At::NoSync | At::Bad => break 'bytes,
+                    At::NoSync | At::Bad(_) => break 'bytes,
                 }
             }
             if s[p + k] != word[k] {

@@ -125,7 +125,7 @@ module _ (o : Order) (s : List ℕ) (c : Cursor) (m : length s < 100000) (h : c 
   line-by Cut e =
       let n = length-drop (c .place) s in
       omega (arith, stretch-length 4 (0x63 ∷ 0x75 ∷ 0x74 ∷ []) (c .place) (length (drop (c .place) s)) (omega arith) (omega arith))
-  line-by Stretch e =
+  line-by (Stretch stray) e =
       let g = gap-le o (drop (c .place) s) in
       let n = length-drop (c .place) s in
       omega (arith, stretch-length 4 (0x73 ∷ 0x6B ∷ 0x69 ∷ 0x70 ∷ []) (c .place) (gap o (drop (c .place) s)) (omega arith) (omega arith))

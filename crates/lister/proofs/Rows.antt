@@ -56,7 +56,7 @@ module _ (o : Order) where
       let z = r .none (omega arith) in
       record { none = λ z. absurd (omega arith); most = omega arith; stopped = λ t. omega arith }
   rows-cons x l n NoSync e r = passed x l n (rw e) r
-  rows-cons x l n Bad e r = passed x l n (rw e) r
+  rows-cons x l n (Bad b) e r = passed x l n (rw e) r
 
   rows-by : (f : ℕ) (l : List ℕ) → length l ≤ f → Rows l (length (framesBy f o l))
   unfolding framesBy

@@ -23,13 +23,15 @@ use Rattle.effect.specs.declared.Verdict.{Verdict}
 use Rattle.effect.specs.declared.Verdict.the-variants.{Good, Unknown, Malformed, NotCovered, Waits, Ready}
 use Rattle.reader.specs.Item.{itemSaid}
 use Rattle.reader.specs.declared.Item.{Item}
+use Rattle.reader.specs.declared.Cause as causes
+use Rattle.reader.specs.declared.Cause.the-variants.{Searching, NoSync, Large, Uneven}
 use Rattle.reader.specs.declared.Item.the-variants.{PastEnd, BadState, End, Skipped, Unfinished, Chunk}
 use Rattle.listing.specs.Digits.{digit, hexDigit, decimalBy, decimal, hexDigits}
 use Rattle.listing.specs.Text.{textOf, shown}
-use Rattle.listing.specs.Words.{numberWord, integerWord, hexWord, headOf}
+use Rattle.listing.specs.Words.{numberWord, integerWord, hexWord, causeWord, headOf}
 use Rattle.listing.specs.Lines.{isKnown, verdictWord, countLine, firstLine, stretchLine, chunkLine, answerLine, lastLine}
 use Rattle.listing.specs.declared.Label.{Label}
-use Rattle.listing.specs.declared.Label.the-variants.{Time, Mark, Packing, Rate, Bandwidth, GroupBandwidth, Frequency, FullScale, TotalGain, FloatScale, GroupPacking, GroupFrequencies, GroupGains, Samples, Text, Value}
+use Rattle.listing.specs.declared.Label.the-variants.{Time, Mark, Packing, Rate, Bandwidth, GroupBandwidth, Frequency, FullScale, TotalGain, FloatScale, GroupPacking, GroupFrequencies, GroupGains, Samples, Text, Value, Cause}
 use Rattle.listing.proofs.Numbers.{decimal-one, decimal-more, tenth-less}
 use Rattle.listing.proofs.Texts.{shown-text}
 
@@ -112,7 +114,7 @@ abbrev pub Sized : Item → Type 0
 Sized PastEnd = Unit {0}
 Sized BadState = Unit {0}
 Sized End = Unit {0}
-Sized (Skipped p n) = (p < 2 ^ 64) × (n < 2 ^ 64)
+Sized (Skipped p n cause) = (p < 2 ^ 64) × (n < 2 ^ 64)
 Sized (Unfinished p n) = (p < 2 ^ 64) × (n < 2 ^ 64)
 Sized (Chunk p code size v) = (p < 2 ^ 64) × (size < 2 ^ 64)
 
@@ -121,7 +123,7 @@ pub item-shown : (i : Item) → Sized i → shown (textOf (answerLine (itemSaid 
 item-shown PastEnd h = shows-all [] (omega arith)
 item-shown BadState h = shows-all [] (omega arith)
 item-shown End h = shows-all [] (omega arith)
-item-shown (Skipped p n) h = shows-all _ (omega (arith, stretch-length 19 (0x73 ∷ 0x6B ∷ 0x69 ∷ 0x70 ∷ []) p n (omega (arith, h .0)) (omega (arith, h .1))))
+item-shown (Skipped p n cause) h = shows-all _ (omega (arith, stretch-length 19 (0x73 ∷ 0x6B ∷ 0x69 ∷ 0x70 ∷ []) p n (omega (arith, h .0)) (omega (arith, h .1))))
 item-shown (Unfinished p n) h = shows-all _ (omega (arith, stretch-length 19 (0x63 ∷ 0x75 ∷ 0x74 ∷ []) p n (omega (arith, h .0)) (omega (arith, h .1))))
 item-shown (Chunk p code size v) h = shows-all _ (omega (arith, chunk-length 19 p code size (verdictSaid v) (omega (arith, h .0)) (omega (arith, h .1)) (verdict-length v)))
 
@@ -158,6 +160,16 @@ head-length GroupGains = omega arith
 head-length Samples = omega arith
 head-length Text = omega arith
 head-length Value = omega arith
+head-length Cause = omega arith
+
+cause-length : (c : causes.Cause) → length (causeWord c) ≤ 10
+cause-length Searching = omega arith
+cause-length NoSync = omega arith
+cause-length Large = omega arith
+cause-length Uneven = omega arith
+
+pub cause-shown : (c : causes.Cause) → shown (textOf (causeWord c)) ≡ causeWord c
+cause-shown c = shows-all _ (omega (arith, cause-length c))
 
 pub head-shown : (which : Label) → shown (textOf (headOf which)) ≡ headOf which
 head-shown which = shows-all _ (omega (arith, head-length which))

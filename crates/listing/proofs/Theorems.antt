@@ -1,4 +1,4 @@
--- What the definitions say: two lines of a dump, and decimal digits that read back.
+-- What the definitions say: lines of a dump, and decimal digits that read back.
 use Prim.Native.Nat.{ℕ, zero, suc, _+_, _-_, _*_, _/_, _%_, _<_}
 use mathlib.Core.Path.{_≡_, refl}
 use mathlib.Core.Bool.{Bool, true, false}
@@ -8,9 +8,10 @@ use lib.Dec.{ltb}
 use lib.IntN.{negsuc}
 use lib.ListN.{length, getD, length-append, List·getD-append}
 use borrow.Author.Tests.{ltb-true, ltb-false}
+use Rattle.reader.specs.declared.Cause.the-variants.{Searching, NoSync, Large, Uneven}
 use Rattle.listing.specs.Digits.{digit, decimalBy, decimal, hexDigits}
-use Rattle.listing.specs.Words.{integerWord, hexWord, dumpLine}
-use Rattle.listing.specs.declared.Label.the-variants.{Time, GroupGains}
+use Rattle.listing.specs.Words.{integerWord, hexWord, causeWord, dumpLine}
+use Rattle.listing.specs.declared.Label.the-variants.{Time, GroupGains, Cause}
 use Rattle.listing.proofs.Numbers.{decimal-one, decimal-more}
 
 -- ---- the dump
@@ -24,6 +25,19 @@ pub example-dump : dumpLine Time (integerWord (negsuc 4)) ++ dumpLine GroupGains
     []
 unfolding decimal decimalBy hexDigits
 example-dump = refl
+
+-- the line under skipped bytes, for each cause
+pub example-causes : dumpLine Cause (causeWord Searching) ++ dumpLine Cause (causeWord NoSync) ++ dumpLine Cause (causeWord Large) ++ dumpLine Cause (causeWord Uneven) ≡
+    --   cause searching
+    0x20 ∷ 0x20 ∷ 0x63 ∷ 0x61 ∷ 0x75 ∷ 0x73 ∷ 0x65 ∷ 0x20 ∷ 0x73 ∷ 0x65 ∷ 0x61 ∷ 0x72 ∷ 0x63 ∷ 0x68 ∷ 0x69 ∷ 0x6E ∷ 0x67 ∷ 0x0A ∷
+    --   cause sync
+    0x20 ∷ 0x20 ∷ 0x63 ∷ 0x61 ∷ 0x75 ∷ 0x73 ∷ 0x65 ∷ 0x20 ∷ 0x73 ∷ 0x79 ∷ 0x6E ∷ 0x63 ∷ 0x0A ∷
+    --   cause large
+    0x20 ∷ 0x20 ∷ 0x63 ∷ 0x61 ∷ 0x75 ∷ 0x73 ∷ 0x65 ∷ 0x20 ∷ 0x6C ∷ 0x61 ∷ 0x72 ∷ 0x67 ∷ 0x65 ∷ 0x0A ∷
+    --   cause uneven
+    0x20 ∷ 0x20 ∷ 0x63 ∷ 0x61 ∷ 0x75 ∷ 0x73 ∷ 0x65 ∷ 0x20 ∷ 0x75 ∷ 0x6E ∷ 0x65 ∷ 0x76 ∷ 0x65 ∷ 0x6E ∷ 0x0A ∷
+    []
+example-causes = refl
 
 -- ---- decimal digits read back
 

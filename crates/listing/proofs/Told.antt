@@ -62,6 +62,6 @@ pub no-line-told : (i : Item) → OneOf (0 ∷ 1 ∷ 2 ∷ []) (tagOf item.the-t
 no-line-told PastEnd e = refl
 no-line-told BadState e = refl
 no-line-told End e = refl
-no-line-told (Skipped place length) e = absurd (miss (0 ∷ 1 ∷ 2 ∷ []) 3 tt e)
+no-line-told (Skipped place length cause) e = absurd (miss (0 ∷ 1 ∷ 2 ∷ []) 3 tt e)
 no-line-told (Unfinished place length) e = absurd (miss (0 ∷ 1 ∷ 2 ∷ []) 4 tt e)
 no-line-told (Chunk place code size v) e = absurd (miss (0 ∷ 1 ∷ 2 ∷ []) 5 tt e)

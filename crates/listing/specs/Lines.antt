@@ -64,7 +64,7 @@ chunkLine place code size says =
 abbrev pub itemLine : Item → List ℕ
 itemLine end = []
 -- skip
-itemLine (skipped place n) = stretchLine (0x73 ∷ 0x6B ∷ 0x69 ∷ 0x70 ∷ []) place n
+itemLine (skipped place n cause) = stretchLine (0x73 ∷ 0x6B ∷ 0x69 ∷ 0x70 ∷ []) place n
 -- cut
 itemLine (unfinished place n) = stretchLine (0x63 ∷ 0x75 ∷ 0x74 ∷ []) place n
 itemLine (chunk place code size says) = chunkLine place code size says

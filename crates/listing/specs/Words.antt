@@ -2,9 +2,11 @@
 use Prim.Native.Nat.{ℕ}
 use lib.IntN.{ℤ}
 use mathlib.Core.List.{List, [], _∷_, _++_}
+use Rattle.reader.specs.declared.Cause as causes
+use Rattle.reader.specs.declared.Cause.the-variants.{Searching, NoSync, Large, Uneven}
 use Rattle.listing.specs.Digits.{decimal, integer, hex}
 use Rattle.listing.specs.declared.Label.{Label}
-use Rattle.listing.specs.declared.Label.the-variants.{Time, Mark, Packing, Rate, Bandwidth, GroupBandwidth, Frequency, FullScale, TotalGain, FloatScale, GroupPacking, GroupFrequencies, GroupGains, Samples, Text, Value}
+use Rattle.listing.specs.declared.Label.the-variants.{Time, Mark, Packing, Rate, Bandwidth, GroupBandwidth, Frequency, FullScale, TotalGain, FloatScale, GroupPacking, GroupFrequencies, GroupGains, Samples, Text, Value, Cause}
 
 -- the end of a line
 abbrev pub newline : List ℕ
@@ -23,6 +25,17 @@ integerWord n = spaced (integer n)
 
 abbrev pub hexWord : ℕ → List ℕ
 hexWord n = spaced (hex n)
+
+-- why a stretch was skipped, as a word
+abbrev pub causeWord : causes.Cause → List ℕ
+-- searching
+causeWord Searching = 0x20 ∷ 0x73 ∷ 0x65 ∷ 0x61 ∷ 0x72 ∷ 0x63 ∷ 0x68 ∷ 0x69 ∷ 0x6E ∷ 0x67 ∷ []
+-- sync
+causeWord NoSync = 0x20 ∷ 0x73 ∷ 0x79 ∷ 0x6E ∷ 0x63 ∷ []
+-- large
+causeWord Large = 0x20 ∷ 0x6C ∷ 0x61 ∷ 0x72 ∷ 0x67 ∷ 0x65 ∷ []
+-- uneven
+causeWord Uneven = 0x20 ∷ 0x75 ∷ 0x6E ∷ 0x65 ∷ 0x76 ∷ 0x65 ∷ 0x6E ∷ []
 
 -- the head of a line of the dump, after two spaces
 abbrev pub headOf : Label → List ℕ
@@ -58,6 +71,8 @@ headOf Samples = 0x20 ∷ 0x20 ∷ 0x73 ∷ 0x61 ∷ 0x6D ∷ 0x70 ∷ 0x6C ∷ 
 headOf Text = 0x20 ∷ 0x20 ∷ 0x74 ∷ 0x65 ∷ 0x78 ∷ 0x74 ∷ []
 -- value
 headOf Value = 0x20 ∷ 0x20 ∷ 0x76 ∷ 0x61 ∷ 0x6C ∷ 0x75 ∷ 0x65 ∷ []
+-- cause
+headOf Cause = 0x20 ∷ 0x20 ∷ 0x63 ∷ 0x61 ∷ 0x75 ∷ 0x73 ∷ 0x65 ∷ []
 
 -- a line of the dump: its head, the words of its values, and its end
 abbrev pub dumpLine : Label → List ℕ → List ℕ

@@ -15,6 +15,7 @@ pub use lines::long_line;
 pub use lines::none_line;
 pub use string::Text;
 pub use string::word;
+pub use words::cause;
 pub use words::decimal;
 pub use words::hex_word;
 pub use words::newline;
@@ -55,4 +56,6 @@ pub enum Label {
     Text,
     // The number of a SOFH.
     Value,
+    // Why bytes were skipped.
+    Cause,
 }

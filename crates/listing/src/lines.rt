@@ -29,7 +29,11 @@ pub fn item_line(item: Item) -> Text
 {
     match item {
         Item::PastEnd | Item::BadState | Item::End => word(b""),
-        Item::Skipped { place, length } => stretch(b"skip", place, length),
+        Item::Skipped {
+            place,
+            length,
+            cause: _,
+        } => stretch(b"skip", place, length),
         Item::Unfinished { place, length } => stretch(b"cut", place, length),
         Item::Chunk {
             place,

@@ -2,13 +2,14 @@
 ghost use mathlib.Core.Path.{_≡_};
 ghost use mathlib.Core.List.{_++_};
 ghost use Rattle.listing.specs.Text.{textOf};
-ghost use Rattle.listing.specs.Words.{newline, numberWord, integerWord, hexWord, headOf};
+ghost use Rattle.listing.specs.Words.{newline, numberWord, integerWord, hexWord, causeWord, headOf};
 use crate::Label;
 use crate::digits::eight;
 use crate::digits::natural;
 use crate::string::Text;
 use crate::string::joined;
 use crate::string::word;
+use reader::Cause;
 
 // The end of a line.
 pub fn newline() -> Text
@@ -63,6 +64,18 @@ pub fn hex_word(p: u32) -> Text
     joined(word(b" "), eight(p))
 }
 
+// Why bytes were skipped, in one word after a space.
+pub fn cause(cause: Cause) -> Text
+    ensures { λ r. ⌜ r ≡ textOf (causeWord cause) ⌝ }
+{
+    match cause {
+        Cause::Searching => word(b" searching"),
+        Cause::NoSync => word(b" sync"),
+        Cause::Large => word(b" large"),
+        Cause::Uneven => word(b" uneven"),
+    }
+}
+
 // The head of a line of the dump, after two spaces.
 pub fn label(which: Label) -> Text
     ensures { λ r. ⌜ r ≡ textOf (headOf which) ⌝ }
@@ -84,5 +97,6 @@ pub fn label(which: Label) -> Text
         Label::Samples => word(b"  samples"),
         Label::Text => word(b"  text"),
         Label::Value => word(b"  value"),
+        Label::Cause => word(b"  cause"),
     }
 }

@@ -47,7 +47,7 @@ pub no-body : (s : List ℕ) (i : declared.Item) → OneOf others (tagOf the-typ
 no-body s items.PastEnd e = refl
 no-body s items.BadState e = refl
 no-body s items.End e = refl
-no-body s (items.Skipped place length) e = refl
+no-body s (items.Skipped place length cause) e = refl
 no-body s (items.Unfinished place length) e = refl
 no-body s (items.Chunk place code size v) e = absurd (miss others 5 tt e)
 
@@ -80,7 +80,7 @@ module _ (o : Order) (s : List ℕ) (c : Cursor) where
         rw (← t, ← p, ← i, ← j) (judged-at k n e)
     judged-by End e q = let z : _≡_ {A = ℕ} 0 1 = cc in absurd (omega arith)
     judged-by Cut e q = let z : _≡_ {A = ℕ} 0 1 = cc in absurd (omega arith)
-    judged-by Stretch e q = let z : _≡_ {A = ℕ} 0 1 = cc in absurd (omega arith)
+    judged-by (Stretch stray) e q = let z : _≡_ {A = ℕ} 0 1 = cc in absurd (omega arith)
 
     judged-past : (past unready : Bool) →
         pick past (refused 2 c) (pick unready (refused 3 c) (stepBy o (drop (c .place) s) c (aheadOf o (drop (c .place) s)))) .item ≡ gives (chunk place code size says) →

@@ -15,6 +15,7 @@ use Rattle.frame.specs.Frames.{Frame, frames}
 use Rattle.frame.specs.Frames as Frames
 use Rattle.frame.specs.Place.{shows, gap, stops}
 use Rattle.frame.specs.Ahead.{aheadOf}
+use Rattle.frame.specs.declared.Stray.{Stray}
 use Rattle.frame.specs.declared.Ahead.{Ahead}
 use Rattle.frame.specs.declared.Ahead.the-variants.{End, Stretch, Cut, Chunk}
 use Rattle.frame.proofs.Looks.{is-chunk, is-cut, is-stretch, is-end}
@@ -38,7 +39,7 @@ unfolding itemsFrom
 items-length o p step s [] = refl
 items-length o p step s (Frames.chunk code body ∷ rest) =
     ap suc (items-length o (p + 12 + length body) true (effect o (kindOf code) body (before step s) .after) rest)
-items-length o p step s (Frames.skipped bytes ∷ rest) = ap suc (items-length o (p + length bytes) false s rest)
+items-length o p step s (Frames.skipped stray bytes ∷ rest) = ap suc (items-length o (p + length bytes) false s rest)
 items-length o p step s (Frames.unfinished bytes ∷ rest) = ap suc (items-length o (p + length bytes) step s rest)
 
 -- one step more, at the end of the others
@@ -62,7 +63,7 @@ fit-by o l c (Chunk code size) h =
     rw (effect-good o (take size (drop 12 l)) (before (c .«in_step») (c .state)) (before-good (c .«in_step») (c .state) h) (kindOf code))
 fit-by o l c End h = h
 fit-by o l c Cut h = h
-fit-by o l c Stretch h = refl
+fit-by o l c (Stretch stray) h = refl
 
 fit-past : (o : Order) (l : List ℕ) (c : Cursor) (b : Bool) → Fit c → Fit (pick b (refused 2 c) (stepBy o l c (aheadOf o l)) .cursor)
 fit-past o l c true h = h
@@ -92,12 +93,12 @@ ahead o s c = itemsFrom o (c .place) (c .«in_step») (c .state) (frames o (drop
 
 -- one step, by what stands there, and then what is ahead of the cursor that it leaves
 module _ (o : Order) (s : List ℕ) (c : Cursor) (h : c .place < length s) where
-  skip-one : stops (shows o (drop (c .place) s)) ≡ false →
-      let t : Step = skips c (gap o (drop (c .place) s)) in
+  skip-one : (stray : Stray) → aheadOf o (drop (c .place) s) ≡ Stretch stray →
+      let t : Step = skips c stray (gap o (drop (c .place) s)) in
       ahead o s c ≡ told (t .item) (t .shown) (ahead o s (t .cursor))
   unfolding itemsFrom
-  skip-one k =
-      ap (itemsFrom o (c .place) (c .«in_step») (c .state)) (frames-skip o s (c .place) h k)
+  skip-one stray e =
+      ap (itemsFrom o (c .place) (c .«in_step») (c .state)) (frames-skip o s (c .place) h stray e)
       ∙ rw (length-take-le (gap o (drop (c .place) s)) (drop (c .place) s) (gap-le o (drop (c .place) s)))
 
   one-by : (a : Ahead) → aheadOf o (drop (c .place) s) ≡ a →
@@ -109,7 +110,7 @@ module _ (o : Order) (s : List ℕ) (c : Cursor) (h : c .place < length s) where
       ap (itemsFrom o (c .place) (c .«in_step») (c .state)) (frames-chunk o s (c .place) h code size k)
       ∙ rw (chunk-size o s (c .place) code size k)
   one-by Cut e = ap (itemsFrom o (c .place) (c .«in_step») (c .state)) (frames-cut o s (c .place) h (is-cut o (drop (c .place) s) e))
-  one-by Stretch e = skip-one (is-stretch o (drop (c .place) s) e)
+  one-by (Stretch stray) e = skip-one stray e
   one-by End e = absurd (omega (arith, is-end o (drop (c .place) s) e, length-drop (c .place) s))
 
   pub one : Fit c → let t : Step = stepOf o s c in ahead o s c ≡ told (t .item) (t .shown) (ahead o s (t .cursor))
@@ -120,8 +121,8 @@ pub record Goes (s : List ℕ) (c d : Cursor) : Type 0 where
   pub on : c .place < d .place
   pub within : d .place ≤ length s
 
-passed-on : (o : Order) (s : List ℕ) (c : Cursor) → c .place < length s → stops (shows o (drop (c .place) s)) ≡ false → Goes s c (skips c (gap o (drop (c .place) s)) .cursor)
-passed-on o s c h k =
+passed-on : (o : Order) (s : List ℕ) (c : Cursor) (stray : Stray) → c .place < length s → stops (shows o (drop (c .place) s)) ≡ false → Goes s c (skips c stray (gap o (drop (c .place) s)) .cursor)
+passed-on o s c stray h k =
     let n = length-drop (c .place) s in
     record { on = omega (arith, gap-step o s (c .place) h k); within = omega (arith, gap-le o (drop (c .place) s)) }
 
@@ -129,7 +130,7 @@ goes-by : (o : Order) (s : List ℕ) (c : Cursor) (a : Ahead) → aheadOf o (dro
 goes-by o s c (Chunk code size) e h =
     record { on = omega arith; within = omega (arith, chunk-ends o s (c .place) code size (is-chunk o (drop (c .place) s) code size e)) }
 goes-by o s c Cut e h = let n = length-drop (c .place) s in record { on = omega arith; within = omega arith }
-goes-by o s c Stretch e h = passed-on o s c h (is-stretch o (drop (c .place) s) e)
+goes-by o s c (Stretch stray) e h = passed-on o s c stray h (is-stretch o (drop (c .place) s) stray e)
 goes-by o s c End e h = absurd (omega (arith, is-end o (drop (c .place) s) e, length-drop (c .place) s))
 
 pub goes : (o : Order) (s : List ℕ) (c : Cursor) → Fit c → c .place < length s → Goes s c (stepOf o s c .cursor)

@@ -67,7 +67,7 @@ verdict-told = told verdictSaid verdictOf verdict-back
 itemOf : Answer Item → declared.Item
 itemOf (refuses n) = pick (eqb n 2) PastEnd BadState
 itemOf (gives end) = End
-itemOf (gives (skipped place length)) = Skipped place length
+itemOf (gives (skipped place length cause)) = Skipped place length cause
 itemOf (gives (unfinished place length)) = Unfinished place length
 itemOf (gives (chunk place code size says)) = Chunk place code size (verdictOf says)
 
@@ -76,7 +76,7 @@ unfolding itemOf
 item-back PastEnd = refl
 item-back BadState = refl
 item-back End = refl
-item-back (Skipped place length) = refl
+item-back (Skipped place length cause) = refl
 item-back (Unfinished place length) = refl
 item-back (Chunk place code size v) = ap (Chunk place code size) (verdict-back v)
 

@@ -11,6 +11,7 @@ use Rattle.body.specs.Kind.{kindOf}
 use Rattle.state.specs.declared.State.{State}
 use Rattle.effect.specs.Ready.{noState}
 use Rattle.effect.specs.Effect.{Effect, effect}
+use Rattle.reader.specs.Cause.{causeOf}
 use Rattle.reader.specs.Item.{Item, skipped, unfinished, chunk}
 use Rattle.reader.specs.Step.{before}
 
@@ -27,8 +28,9 @@ itemsFrom o p step s (Frames.chunk code body ∷ rest) =
     let e : Effect = effect o (kindOf code) body (before step s) in
     record { item = chunk p code (length body) (e .says); shown = e .shown }
     ∷ itemsFrom o (p + headerSize + length body) true (e .after) rest
-itemsFrom o p step s (Frames.skipped bytes ∷ rest) =
-    record { item = skipped p (length bytes); shown = noState } ∷ itemsFrom o (p + length bytes) false s rest
+itemsFrom o p step s (Frames.skipped stray bytes ∷ rest) =
+    record { item = skipped p (length bytes) (causeOf step stray); shown = noState }
+    ∷ itemsFrom o (p + length bytes) false s rest
 itemsFrom o p step s (Frames.unfinished bytes ∷ rest) =
     record { item = unfinished p (length bytes); shown = noState } ∷ itemsFrom o (p + length bytes) step s rest
 

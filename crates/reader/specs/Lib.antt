@@ -1,3 +1,4 @@
+pub mod Cause
 pub mod Item
 pub mod Step
 pub mod Items

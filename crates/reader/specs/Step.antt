@@ -10,6 +10,7 @@ use Rattle.num.specs.Choice.{pick, both}
 use Rattle.num.specs.declared.Order.{Order}
 use Rattle.frame.specs.Place.{headerSize, gap}
 use Rattle.frame.specs.Ahead.{aheadOf}
+use Rattle.frame.specs.declared.Stray.{Stray}
 use Rattle.frame.specs.declared.Ahead.{Ahead}
 use Rattle.frame.specs.declared.Ahead.the-variants.{End, Stretch, Cut, Chunk}
 use Rattle.body.specs.Kind.{kindOf}
@@ -18,6 +19,7 @@ use Rattle.state.specs.Good.{goodState}
 use Rattle.state.specs.declared.State.{State}
 use Rattle.effect.specs.Ready.{noState}
 use Rattle.effect.specs.Effect.{Effect, effect}
+use Rattle.reader.specs.Cause.{causeOf}
 use Rattle.reader.specs.Item.{Item, end, skipped, unfinished, chunk}
 use Rattle.reader.specs.declared.Cursor.{Cursor}
 
@@ -51,9 +53,9 @@ abbrev pub refused : ℕ → Cursor → Step
 refused n c = record { item = refuses n; shown = noState; cursor = c }
 
 -- at no sync or a bad header, the stretch up to where a search stops is skipped, and the reader is searching
-abbrev pub skips : Cursor → ℕ → Step
-skips c g = record {
-  item = gives (skipped (c .place) g);
+abbrev pub skips : Cursor → Stray → ℕ → Step
+skips c stray g = record {
+  item = gives (skipped (c .place) g (causeOf (c .«in_step») stray));
   shown = noState;
   cursor = cursorAt (c .place + g) false (c .state);
 }
@@ -80,7 +82,7 @@ stepBy o l c End = record { item = gives end; shown = noState; cursor = c }
 stepBy o l c (Chunk code size) =
     accepts c code size (effect o (kindOf code) (take size (drop headerSize l)) (before (c .«in_step») (c .state)))
 stepBy o l c Cut = cuts c (length l)
-stepBy o l c Stretch = skips c (gap o l)
+stepBy o l c (Stretch stray) = skips c stray (gap o l)
 
 -- number 3 is due: the cursor is in step with a state that is not good
 abbrev pub unfit : Cursor → Bool

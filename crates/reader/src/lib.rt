@@ -12,13 +12,16 @@ ghost use Rattle.effect.specs.Ready.{noState};
 ghost use Rattle.frame.specs.Frames.{width, first};
 ghost use Rattle.frame.specs.Place.{headerSize, gap};
 ghost use Rattle.state.specs.State.{withMark};
+ghost use Rattle.reader.specs.Cause.{causeOf};
 ghost use Rattle.reader.specs.Item.{itemSaid, itemNumber};
 ghost use Rattle.reader.specs.Items.{items};
 ghost use Rattle.reader.specs.IsStep.{IsStep};
 ghost use Rattle.reader.specs.Step.{newCursor, before, accepted, lost, accepts, cuts, skips, stepOf};
 use effect::Verdict;
 use frame::Ahead;
+use frame::BadSize;
 use frame::Found;
+use frame::Stray;
 use num::Order;
 use state::State;
 
@@ -29,6 +32,18 @@ pub struct Cursor {
     pub state: State,
 }
 
+// Why bytes were skipped: how the reader came to the place where they begin, and what stands there.
+pub enum Cause {
+    // It came searching, as at the start.
+    Searching,
+    // It came in step, and no sync word stands there.
+    NoSync,
+    // It came in step, and a header stands there whose size is over the limit.
+    Large,
+    // It came in step, and a header stands there whose size is within the limit, but no multiple of 4.
+    Uneven,
+}
+
 // What a step gives.
 pub enum Item {
     // Refused: the cursor's place is past the end. Number 2.
@@ -37,10 +52,11 @@ pub enum Item {
     BadState,
     // No byte is left.
     End,
-    // Bytes that belong to no chunk.
+    // Bytes that belong to no chunk, and why they were skipped.
     Skipped {
         place: usize,
         length: usize,
+        cause: Cause,
     },
     // A chunk that breaks off at the end of the stream.
     Unfinished {
@@ -68,6 +84,7 @@ impl Item {
             Item::Skipped {
                 place: _,
                 length: _,
+                cause: _,
             } => 0,
             Item::Unfinished {
                 place: _,
@@ -175,7 +192,7 @@ impl Cursor {
                 chunk(order, code, &s[from..to], self)
             }
             Ahead::Cut => cut(s.len() - at, self),
-            Ahead::Stretch => skip(order, s, self),
+            Ahead::Stretch(stray) => skip(order, s, self, stray),
         }
     }
 }
@@ -249,12 +266,29 @@ fn cut(left: usize, cursor: Cursor) -> Stepped
     }
 }
 
+// Why a stretch is skipped: a reader that comes searching was searching; one in step names what stands there.
+fn cause_of(in_step: bool, stray: Stray) -> Cause
+    ensures { λ r. ⌜ r ≡ causeOf in_step stray ⌝ }
+{
+    if !in_step {
+        return Cause::Searching;
+    }
+    match stray {
+        Stray::NoSync => Cause::NoSync,
+        Stray::Bad(size) => match size {
+            BadSize::Large => Cause::Large,
+            BadSize::Uneven => Cause::Uneven,
+        },
+    }
+}
+
 // The stretch up to where a search stops is skipped.
-fn skip(order: Order, s: &[u8], cursor: Cursor) -> Stepped
+fn skip(order: Order, s: &[u8], cursor: Cursor, stray: Stray) -> Stepped
     requires { ⌜ cursor .place ≤ length (now s) ⌝ }
-    ensures { λ r. ⌜ IsStep r (skips cursor (gap order (drop (cursor .place) (now (s .entry))))) ⌝ }
+    ensures { λ r. ⌜ IsStep r (skips cursor stray (gap order (drop (cursor .place) (now (s .entry))))) ⌝ }
 {
     let place = cursor.place;
+    let cause = cause_of(cursor.in_step, stray);
     let to = stop(order, s, place);
     let mut next = cursor.lose_step();
     next.place = to;
@@ -262,6 +296,7 @@ fn skip(order: Order, s: &[u8], cursor: Cursor) -> Stepped
         item: Item::Skipped {
             place,
             length: to - place,
+            cause,
         },
         shown: State::empty(false),
         cursor: next,
@@ -287,7 +322,7 @@ fn past(order: Order, s: &[u8], place: usize) -> usize
     match frame::ahead_of(order, s, place) {
         Ahead::Chunk { code: _, size } => place + frame::HEADER + size,
         Ahead::Cut => s.len(),
-        Ahead::Stretch => stop(order, s, place),
+        Ahead::Stretch(_) => stop(order, s, place),
         Ahead::End => place,
     }
 }

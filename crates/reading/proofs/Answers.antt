@@ -7,6 +7,7 @@ use Rattle.num.specs.declared.Order.{Order}
 use Rattle.effect.specs.Says.{verdictSaid}
 use Rattle.effect.specs.declared.Verdict.{Verdict}
 use Rattle.reader.specs.Item.{itemSaid}
+use Rattle.reader.specs.declared.Cause.{Cause}
 use Rattle.reader.specs.declared.Cursor.{Cursor}
 use Rattle.reader.specs.declared.Item as declared
 use Rattle.reader.specs.declared.Item.the-variants.{PastEnd, BadState, End, Skipped, Unfinished, Chunk}
@@ -34,8 +35,8 @@ module _ (o : Order) (s : List ℕ) (c : Cursor) (a : StepCall) (on : StepOn o s
   pub end-exactly : (a .result .item ≡ End) ↔ EndDue s c
   end-exactly = answer-exactly End
 
-  pub skipped-exactly : (p n : ℕ) → (a .result .item ≡ Skipped p n) ↔ SkippedDue o s c p n
-  skipped-exactly p n = answer-exactly (Skipped p n)
+  pub skipped-exactly : (p n : ℕ) (cause : Cause) → (a .result .item ≡ Skipped p n cause) ↔ SkippedDue o s c p n cause
+  skipped-exactly p n cause = answer-exactly (Skipped p n cause)
 
   pub unfinished-exactly : (p n : ℕ) → (a .result .item ≡ Unfinished p n) ↔ UnfinishedDue o s c p n
   unfinished-exactly p n = answer-exactly (Unfinished p n)

@@ -34,7 +34,7 @@ record Takes (c : Cursor) (t : Step) (g : Given) : Type 0 where
 -- where something is ahead, a step gives an item
 takes-by : (o : Order) (l : List ℕ) (c : Cursor) (a : Ahead) → (a ≡ End → ⊥) → (g : Given) × Takes c (stepBy o l c a) g
 takes-by o l c End h = absurd (h refl)
-takes-by o l c Stretch h = (_, record { gives = record { item = refl; shown = refl; some = refl }; from = refl; to = refl })
+takes-by o l c (Stretch stray) h = (_, record { gives = record { item = refl; shown = refl; some = refl }; from = refl; to = refl })
 takes-by o l c Cut h = (_, record { gives = record { item = refl; shown = refl; some = refl }; from = refl; to = refl })
 takes-by o l c (Chunk code size) h = (_, record { gives = record { item = refl; shown = refl; some = refl }; from = refl; to = omega arith })
 

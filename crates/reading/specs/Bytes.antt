@@ -7,13 +7,13 @@ use Rattle.reader.specs.Item.{Item, end, skipped, unfinished, chunk}
 -- where an item begins, and how many bytes it has, a chunk's header among them; End has none
 abbrev pub begins : Item → ℕ
 begins end = 0
-begins (skipped place n) = place
+begins (skipped place n cause) = place
 begins (unfinished place n) = place
 begins (chunk place code size says) = place
 
 abbrev pub extent : Item → ℕ
 extent end = 0
-extent (skipped place n) = n
+extent (skipped place n cause) = n
 extent (unfinished place n) = n
 extent (chunk place code size says) = headerSize + size
 

@@ -5,8 +5,7 @@ use lib.ListN.{length, drop, length-drop}
 use borrow.Author.Needs.{needs}
 use Rattle.frame.specs.Place.{shows}
 use Rattle.frame.specs.Ahead.{aheadBy, aheadOf}
-use Rattle.frame.proofs.Laws.{pass-told}
-use Rattle.frame.proofs.Looks.{passed-by, ahead-at, ahead-none}
+use Rattle.frame.proofs.Looks.{ahead-at, ahead-none}
 use Rattle.frame.proofs.ahead_of.Statement.{statement}
 use Rattle.frame.proofs.ahead_of.Tie as tie
 
@@ -32,6 +31,12 @@ enum-known-code c = search needs
 enum-told : tie.Need-enum-told
 enum-told c = search needs
 
+enum-told-2 : tie.Need-enum-told-2
+enum-told-2 c = search needs
+
+enum-known-size : tie.Need-enum-known-size
+enum-known-size c = search needs
+
 returns-2 : tie.Need-returns-2
 returns-2 c = sym (looked (c .before .before .before) ∙ ap aheadBy (c .before .code .given .1))
 
@@ -39,9 +44,22 @@ returns-3 : tie.Need-returns-3
 returns-3 c = sym (looked (c .before .before) ∙ ap aheadBy (c .enum-told .given .1))
 
 returns-4 : tie.Need-returns-4
-returns-4 c = sym (looked (c .before) ∙ passed-by (c .before .look .result) (pass-told (c .before .look .result) (c .match .keys3)))
+returns-4 c = sym (looked (c .before .before) ∙ ap aheadBy (c .enum-told2 .given .1))
+
+returns-5 : tie.Need-returns-5
+returns-5 c = sym (looked (c .before .before .before) ∙ ap aheadBy (c .before .size .given .1))
 
 pub ahead-of-spec : {M : Type 1} → statement M
 ahead-of-spec =
     tie.close
-    (tie.spec returns look-requires enum-known-code enum-told returns-2 returns-3 returns-4)
+    (tie.spec
+    returns
+    look-requires
+    enum-known-code
+    enum-told
+    enum-told-2
+    enum-known-size
+    returns-2
+    returns-3
+    returns-4
+    returns-5)

@@ -50,10 +50,13 @@ told c =
     (c .before .u32-at .ensures ∙ word-at (a .order) (a .s .now) (a .place) 4 (omega arith))
     (c .u32-at2 .ensures ∙ word-at (a .order) (a .s .now) (a .place) 8 (omega arith)))
 
+bad-size-requires : tie.Need-bad-size-requires
+bad-size-requires c κs = search needs
+
 returns-2 : tie.Need-returns-2
 returns-2 c =
-    let g = c .before .good-size in
-    sym (told (c .before .before) ∙ rw (← g .ensures, not-true (g .result) (c .if2 .taken)))
+    let g = c .before .before .good-size in
+    sym (told (c .before .before .before) ∙ rw (← g .ensures, not-true (g .result) (c .before .if2 .taken), c .bad-size .ensures))
 
 returns-3 : tie.Need-returns-3
 returns-3 c =
@@ -77,6 +80,7 @@ headed-spec =
     u32-at-requires-2
     cast-size
     good-size-requires
+    bad-size-requires
     returns-2
     returns-3
     returns-4)

@@ -55,7 +55,7 @@ returns-3 : tie.Need-returns-3
 returns-3 c =
     let a = c .before .before .before .before .before .args in
     let l = drop (a .place) (a .s .now) in
-    let e = is-stretch (a .order) l (sym (c .before .before .before .ahead-of .ensures) ∙ c .before .enum-told2 .given .1) in
+    let e = is-stretch (a .order) l (c .before .enum-told2 .given .0 .0) (sym (c .before .before .before .ahead-of .ensures) ∙ c .before .enum-told2 .given .1) in
     omega (arith, width-skip (a .order) l e, c .stop .ensures .0)
 
 returns-4 : tie.Need-returns-4

@@ -147,6 +147,15 @@ slice-aggregate-word-16 c = search needs
 word-requires-16 : tie.Need-word-requires-16
 word-requires-16 c κs = search needs
 
+enum-told-17 : tie.Need-enum-told-17
+enum-told-17 c = search needs
+
+slice-aggregate-word-17 : tie.Need-slice-aggregate-word-17
+slice-aggregate-word-17 c = search needs
+
+word-requires-17 : tie.Need-word-requires-17
+word-requires-17 c κs = search needs
+
 returns : tie.Need-returns
 returns c = rw (c .before .before .enum-told .given .1) (c .word .ensures)
 
@@ -194,6 +203,9 @@ returns-15 c = rw (c .before .before .enum-told15 .given .1) (c .word15 .ensures
 
 returns-16 : tie.Need-returns-16
 returns-16 c = rw (c .before .before .enum-told16 .given .1) (c .word16 .ensures)
+
+returns-17 : tie.Need-returns-17
+returns-17 c = rw (c .before .before .enum-told17 .given .1) (c .word17 .ensures)
 
 pub label-spec : {M : Type 1} → statement M
 label-spec =
@@ -247,6 +259,9 @@ label-spec =
     enum-told-16
     slice-aggregate-word-16
     word-requires-16
+    enum-told-17
+    slice-aggregate-word-17
+    word-requires-17
     returns
     returns-2
     returns-3
@@ -262,4 +277,5 @@ label-spec =
     returns-13
     returns-14
     returns-15
-    returns-16)
+    returns-16
+    returns-17)

@@ -111,8 +111,8 @@ sub-cut c = search needs
 cut-requires : tie.Need-cut-requires
 cut-requires c κs = search needs
 
-enum-told-3 : tie.Need-enum-told-3
-enum-told-3 c = search needs
+enum-known-stray : tie.Need-enum-known-stray
+enum-known-stray c = search needs
 
 skip-requires : tie.Need-skip-requires
 skip-requires c κs = search needs
@@ -137,7 +137,7 @@ returns-5 c =
     rw (ahead h, c .before .enum-told2 .given .1, length-drop (a .self .place) (a .s .now)) (c .cut .ensures)
 
 returns-6 : tie.Need-returns-6
-returns-6 c = rw (ahead (c .before .before .before), c .before .enum-told3 .given .1) (c .skip .ensures)
+returns-6 c = rw (ahead (c .before .before .before .before), c .before .before .stray .given .1) (c .skip .ensures)
 
 pub go-on-spec : {M : Type 1} → statement M
 go-on-spec =
@@ -162,7 +162,7 @@ go-on-spec =
     enum-told-2
     sub-cut
     cut-requires
-    enum-told-3
+    enum-known-stray
     skip-requires
     returns-3
     returns-4
