@@ -3,3 +3,4 @@ pub mod Free
 pub mod Looks
 pub mod Frames
 pub mod Theorems
+pub mod Bad

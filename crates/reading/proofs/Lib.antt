@@ -5,5 +5,6 @@ pub mod Runs
 pub mod Stretch
 pub mod Due
 pub mod Answers
+pub mod Causes
 pub mod FromNew
 pub mod FromCalls
