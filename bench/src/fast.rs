@@ -26,7 +26,7 @@ pub fn search(order: Order, stream: &[u8], from: usize) -> Option<usize> {
         let place = find_word(stream, order.sync(), from)?;
         match look(order, stream, place) {
             Look::Complete(_) | Look::Unfinished => return Some(place),
-            Look::NoSync | Look::Bad => from = place + 1,
+            Look::NoSync | Look::Bad(_) => from = place + 1,
         }
     }
 }

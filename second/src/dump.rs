@@ -1,23 +1,31 @@
-//! The listing with all that data chunks show, with texts, and with the
-//! number of a file's start.
+//! The listing with why bytes were skipped, with all that data chunks show,
+//! with texts, and with the number of a file's start.
 
 use std::fmt::{Display, UpperHex, Write};
 
 use crate::body::Body;
 use crate::kind::Width;
 use crate::list::{line, listing};
-use crate::reader::Verdict;
+use crate::reader::{Item, Verdict};
 use crate::samples::Ready;
 use crate::state::State;
 
 pub fn dump(bytes: &[u8]) -> String {
-    listing(bytes, |verdict, text| match verdict {
+    listing(bytes, |item, text| match item {
+        Item::Skipped { cause, .. } => line(text, format_args!("  cause {}", cause.word())),
+        Item::Unfinished { .. } => {}
+        Item::Chunk { verdict, .. } => dump_chunk(text, verdict),
+    })
+}
+
+fn dump_chunk(text: &mut String, verdict: &Verdict) {
+    match verdict {
         Verdict::Waits { time, .. } => line(text, format_args!("  time {time}")),
         Verdict::Ready(ready) => dump_ready(text, ready),
         Verdict::Plain(Body::Text(note)) => dump_text(text, note),
         Verdict::Plain(Body::FileStart(number)) => line(text, format_args!("  value {number}")),
         Verdict::Unknown | Verdict::Malformed(_) | Verdict::NoCover | Verdict::Plain(_) => {}
-    })
+    }
 }
 
 /// The characters of a text as they stand. Control characters could break the

@@ -14,8 +14,12 @@ use crate::search::find_order;
 /// A line for each item, and below a ready chunk of 16-bit numbers those of
 /// channel 0. The lines around the items are left out.
 pub fn first(bytes: &[u8]) -> String {
-    let text = listing(bytes, |verdict, text| {
-        if let Verdict::Ready(ready) = verdict {
+    let text = listing(bytes, |item, text| {
+        if let Item::Chunk {
+            verdict: Verdict::Ready(ready),
+            ..
+        } = item
+        {
             if let Some(numbers) = shorts(ready, 0) {
                 for number in numbers {
                     let _ = write!(text, " {number}");

@@ -27,11 +27,20 @@ impl Frame {
     }
 }
 
+/// What keeps a size from being good.
+#[derive(Clone, Copy, Debug, PartialEq, Eq)]
+pub enum SizeFault {
+    /// Past the limit, in whole words or not.
+    PastLimit,
+    /// Within the limit, but not in whole words.
+    PartWord,
+}
+
 #[derive(Clone, Copy, Debug, PartialEq, Eq)]
 pub enum Look {
     NoSync,
     /// Sync and a whole header whose size is not good.
-    Bad,
+    Bad(SizeFault),
     /// Sync, but the header or the body runs past the end.
     Unfinished,
     Complete(Frame),
@@ -54,7 +63,10 @@ pub fn look(order: Order, stream: &[u8], place: usize) -> Look {
     let [_, _, _, _, t0, t1, t2, t3, s0, s1, s2, s3] = *header;
     let size = order.u32([s0, s1, s2, s3]);
     if !size_is_good(size) {
-        return Look::Bad;
+        return Look::Bad(match size > LARGEST_BODY {
+            true => SizeFault::PastLimit,
+            false => SizeFault::PartWord,
+        });
     }
     let size = size as usize;
     if after.len() < size {

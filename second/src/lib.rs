@@ -46,4 +46,4 @@ pub use order::Order;
 pub use reader::{Item, Reader, Verdict};
 pub use samples::{CopyRefusal, Ready};
 pub use search::{find_order, search};
-pub use walk::Walk;
+pub use walk::{Cause, Walk};

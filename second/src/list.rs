@@ -16,8 +16,8 @@ pub fn list(bytes: &[u8]) -> String {
     listing(bytes, |_, _| {})
 }
 
-/// The listing, with `detail` adding its lines under each chunk's line.
-pub fn listing(bytes: &[u8], detail: impl Fn(&Verdict, &mut String)) -> String {
+/// The listing, with `detail` adding its lines under each item's line.
+pub fn listing(bytes: &[u8], detail: impl Fn(&Item, &mut String)) -> String {
     if bytes.len() > MOST_BYTES {
         return "long\n".to_owned();
     }
@@ -28,18 +28,18 @@ pub fn listing(bytes: &[u8], detail: impl Fn(&Verdict, &mut String)) -> String {
     let mut items = 0;
     for item in Reader::new(order, bytes) {
         items += 1;
-        match item {
-            Item::Skipped { place, len } => line(&mut text, format_args!("skip {place} {len}")),
+        match &item {
+            Item::Skipped { place, len, .. } => {
+                line(&mut text, format_args!("skip {place} {len}"));
+            }
             Item::Unfinished { place, len } => line(&mut text, format_args!("cut {place} {len}")),
             Item::Chunk {
                 frame,
                 kind,
                 verdict,
-            } => {
-                chunk_line(&mut text, frame, kind, &verdict);
-                detail(&verdict, &mut text);
-            }
+            } => chunk_line(&mut text, *frame, *kind, verdict),
         }
+        detail(&item, &mut text);
     }
     line(&mut text, format_args!("end {items}"));
     text

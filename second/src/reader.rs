@@ -8,7 +8,7 @@ use crate::kind::{DataForm, Kind};
 use crate::order::Order;
 use crate::samples::Ready;
 use crate::state::{Lack, State};
-use crate::walk::{Search, Span, Walk};
+use crate::walk::{Cause, Search, Span, Walk};
 
 /// Number of the refusal of a group chunk whose layout doesn't cover it.
 pub const NO_COVER: u32 = 16;
@@ -21,6 +21,7 @@ pub enum Item<'a> {
     Skipped {
         place: usize,
         len: usize,
+        cause: Cause,
     },
     Unfinished {
         place: usize,
@@ -149,7 +150,7 @@ impl<'a> Iterator for Reader<'a> {
 
     fn next(&mut self) -> Option<Item<'a>> {
         Some(match self.walk.next()? {
-            Span::Skipped { place, len } => Item::Skipped { place, len },
+            Span::Skipped { place, len, cause } => Item::Skipped { place, len, cause },
             Span::Unfinished { place, len } => Item::Unfinished { place, len },
             Span::Chunk { frame, regained } => {
                 if regained {

@@ -20,6 +20,7 @@ pub fn all() -> Vec<(&'static str, Vec<u8>)> {
         ("little.pxgf", little()),
         ("damaged.pxgf", damaged()),
         ("notes.pxgf", notes()),
+        ("lost-step.pxgf", lost_step()),
     ]
 }
 
@@ -161,4 +162,27 @@ fn notes() -> Vec<u8> {
         .text("")
         .empty(Kind::Eofh);
     file.into_bytes()
+}
+
+/// A recording taken up in the middle of a chunk, in which the step is then
+/// lost three times: the first byte of a chunk is missing, a size is past the
+/// limit, and a size is not in whole words.
+fn lost_step() -> Vec<u8> {
+    let mut stream = Composer::new(Order::Big);
+    stream
+        .raw(&[0x00, 0x00, 0xFF, 0x38])
+        .int(Kind::Siqp, 1)
+        .long(Kind::Sr, 48 * KILOHERTZ)
+        .shorts(Kind::Ssnc, NOON, &[100, -100]);
+    // All of the chunk but its first byte arrived.
+    let mut short = Composer::new(Order::Big);
+    short.int(Kind::Siqp, 1);
+    stream
+        .raw(&short.bytes()[1..])
+        .long(Kind::Sr, 48 * KILOHERTZ)
+        .header(Kind::Ssnc.code(), 69_636)
+        .int(Kind::Siqp, 1)
+        .header(Kind::Cf.code(), 10)
+        .shorts(Kind::Ssnc, NOON + SECOND, &[200, -200]);
+    stream.into_bytes()
 }

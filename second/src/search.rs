@@ -22,7 +22,7 @@ pub fn search(order: Order, stream: &[u8], from: usize) -> Option<usize> {
     for place in from..stream.len() {
         match look(order, stream, place) {
             Look::Complete(_) | Look::Unfinished => return Some(place),
-            Look::NoSync | Look::Bad => {}
+            Look::NoSync | Look::Bad(_) => {}
         }
     }
     None

@@ -9,7 +9,7 @@ use std::collections::BTreeMap;
 use crate::check::check;
 use crate::dump::dump;
 use crate::filecheck::check_file;
-use crate::list::{line, list, MOST_BYTES};
+use crate::list::{line, MOST_BYTES};
 use crate::make::make;
 use crate::order::Order;
 use crate::reader::{Item, Reader, Verdict};
@@ -163,7 +163,7 @@ pub fn streams(from: u64, count: usize, most: usize) -> Vec<Vec<u8>> {
     let mut streams = Vec::new();
     let mut take = |mut stream: Vec<u8>, verdicts: &mut Verdicts| {
         stream.truncate(MOST_BYTES + 1);
-        verdicts.add(&list(&stream)).expect("a listing");
+        verdicts.add(&dump(&stream)).expect("a dump");
         streams.push(stream);
     };
     for stream in (from..).map(make).filter(|s| s.len() <= most).take(count) {
@@ -175,7 +175,7 @@ pub fn streams(from: u64, count: usize, most: usize) -> Vec<Vec<u8>> {
             break;
         }
         let mut with = verdicts.clone();
-        with.add(&list(&stream)).expect("a listing");
+        with.add(&dump(&stream)).expect("a dump");
         if with.missing().len() < missing {
             take(stream, &mut verdicts);
         }

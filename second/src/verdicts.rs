@@ -6,9 +6,10 @@ use crate::kind::Kind;
 use crate::order::Order;
 use crate::possible::{can_miss_cover, faults, lacks};
 use crate::reader::NO_COVER;
+use crate::walk::Cause;
 
 /// A kind and its verdict; `line` and a word for what has no kind; `pxgf`
-/// and the order for first lines.
+/// and the order for first lines; `cause` and its word for what is skipped.
 pub type Pair = (String, String);
 
 #[derive(Clone, Debug, Default)]
@@ -17,11 +18,12 @@ pub struct Verdicts {
 }
 
 impl Verdicts {
-    /// Takes one listing or several, with or without the indented lines. A
-    /// line that no listing has is given back as the error.
+    /// Takes one dump or several. A line that none has is given back as the
+    /// error.
     pub fn add(&mut self, listing: &str) -> Result<(), String> {
         for line in listing.lines() {
-            if line.starts_with("  ") || line.starts_with("end ") {
+            let detail = line.starts_with("  ") && !line.starts_with("  cause ");
+            if detail || line.starts_with("end ") {
                 continue;
             }
             let pair = pair_of(line).ok_or_else(|| line.to_owned())?;
@@ -65,6 +67,7 @@ fn pair_of(line: &str) -> Option<Pair> {
             };
             pair("line", word.to_owned())
         }
+        ["", "", "cause", word] => pair("cause", word.to_owned()),
         ["pxgf", order, _] => pair("pxgf", order.to_owned()),
         ["chunk", _, kind, _, verdict] => pair(kind, verdict.to_owned()),
         ["chunk", _, kind, _, verdict, number] => pair(kind, format!("{verdict} {number}")),
@@ -78,6 +81,9 @@ pub fn table() -> BTreeSet<Pair> {
     let mut add = |kind: &str, verdict: String| table.insert((kind.to_owned(), verdict));
     for word in ["skip", "cut", "unknown", "none", "long"] {
         add("line", word.to_owned());
+    }
+    for cause in Cause::ALL {
+        add("cause", cause.word().to_owned());
     }
     for order in [Order::Big, Order::Little] {
         add("pxgf", order.name().to_owned());

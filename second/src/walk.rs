@@ -3,15 +3,47 @@
 //! Where items begin and end doesn't depend on what bodies hold, so this
 //! layer knows nothing of kinds or state.
 
-use crate::frame::{look, Frame, Look};
+use crate::frame::{look, Frame, Look, SizeFault};
 use crate::order::Order;
 use crate::search::search;
+
+/// Why bytes were passed over.
+#[derive(Clone, Copy, Debug, PartialEq, Eq)]
+pub enum Cause {
+    /// The reader was searching when it came to them.
+    WasSearching,
+    /// It was in step, and found no sync word.
+    SyncMissing,
+    /// It was in step, and found a header that asks for too much.
+    SizePastLimit,
+    /// It was in step, and found a header that asks for part of a word.
+    SizePartWord,
+}
+
+impl Cause {
+    pub const ALL: [Cause; 4] = [
+        Cause::WasSearching,
+        Cause::SyncMissing,
+        Cause::SizePastLimit,
+        Cause::SizePartWord,
+    ];
+
+    pub fn word(self) -> &'static str {
+        match self {
+            Cause::WasSearching => "searching",
+            Cause::SyncMissing => "sync",
+            Cause::SizePastLimit => "large",
+            Cause::SizePartWord => "uneven",
+        }
+    }
+}
 
 #[derive(Clone, Copy, Debug, PartialEq, Eq)]
 pub enum Span {
     Skipped {
         place: usize,
         len: usize,
+        cause: Cause,
     },
     Unfinished {
         place: usize,
@@ -74,6 +106,20 @@ impl<'a> Walk<'a> {
     pub fn in_step(&self) -> bool {
         self.in_step
     }
+
+    /// Passes over what stands here, which lost the step if there was one.
+    fn skip(&mut self, lost_by: Cause) -> Span {
+        let place = self.place;
+        let cause = match self.in_step {
+            true => lost_by,
+            false => Cause::WasSearching,
+        };
+        self.in_step = false;
+        let next = (self.search)(self.order, self.stream, place + 1);
+        self.place = next.unwrap_or(self.stream.len());
+        let len = self.place - place;
+        Span::Skipped { place, len, cause }
+    }
 }
 
 impl Iterator for Walk<'_> {
@@ -98,12 +144,9 @@ impl Iterator for Walk<'_> {
                 let len = end - place;
                 Span::Unfinished { place, len }
             }
-            Look::NoSync | Look::Bad => {
-                self.in_step = false;
-                self.place = (self.search)(self.order, self.stream, place + 1).unwrap_or(end);
-                let len = self.place - place;
-                Span::Skipped { place, len }
-            }
+            Look::NoSync => self.skip(Cause::SyncMissing),
+            Look::Bad(SizeFault::PastLimit) => self.skip(Cause::SizePastLimit),
+            Look::Bad(SizeFault::PartWord) => self.skip(Cause::SizePartWord),
         })
     }
 }

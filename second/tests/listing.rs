@@ -30,8 +30,11 @@ fn the_example() {
         skip 71 2\n\
         end 6\n";
     assert_eq!(list(&input), expected);
-    let with_time = expected.replace("wait 21\n", "wait 21\n  time 5\n");
-    assert_eq!(dump(&input), with_time);
+    let dumped = expected
+        .replace("skip 0 3\n", "skip 0 3\n  cause searching\n")
+        .replace("wait 21\n", "wait 21\n  time 5\n")
+        .replace("skip 71 2\n", "skip 71 2\n  cause sync\n");
+    assert_eq!(dump(&input), dumped);
 }
 
 #[test]

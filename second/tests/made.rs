@@ -19,11 +19,15 @@ fn every_possible_verdict_is_met() {
 }
 
 /// 22 ok; 22 with 11, 10 with 12, 3 with 13, TEXT with 14 and 15, 2 with 16;
-/// 4 with 21, 6 with 22, 3 with 23; 5 lines without a kind and 2 orders.
+/// 4 with 21, 6 with 22, 3 with 23; 5 lines without a kind, 4 causes and 2
+/// orders.
 #[test]
 fn size_of_the_table() {
     let table = table();
-    assert_eq!(table.len(), 22 + 22 + 10 + 3 + 2 + 2 + 4 + 6 + 3 + 5 + 2);
+    assert_eq!(
+        table.len(),
+        22 + 22 + 10 + 3 + 2 + 2 + 4 + 6 + 3 + 5 + 4 + 2
+    );
     let has = |kind: &str, verdict: &str| table.contains(&(kind.into(), verdict.into()));
     assert!(has("SSNR", "wait 22") && !has("SSNR", "wait 21") && !has("SSNR", "wait 23"));
     assert!(has("SFNR", "wait 23") && !has("SFNR", "wait 21"));

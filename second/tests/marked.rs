@@ -14,7 +14,9 @@ fn items(digits: &str) -> Vec<String> {
     let stream = hex(digits);
     Reader::new(Order::Big, &stream)
         .map(|item| match item {
-            Item::Skipped { place, len } => format!("skipped {place} {len}"),
+            Item::Skipped { place, len, cause } => {
+                format!("skipped {place} {len} {}", cause.word())
+            }
             Item::Unfinished { place, len } => format!("unfinished {place} {len}"),
             Item::Chunk {
                 frame,
@@ -42,7 +44,7 @@ fn case_1_empty() {
 
 #[test]
 fn case_2_three_bytes() {
-    assert_eq!(items("A1B2C3"), ["skipped 0 3"]);
+    assert_eq!(items("A1B2C3"), ["skipped 0 3 searching"]);
 }
 
 #[test]
@@ -62,19 +64,25 @@ fn case_5_largest_size() {
 
 #[test]
 fn case_6_one_word_too_large() {
-    assert_eq!(items("A1B2C3D4 49514443 00011004"), ["skipped 0 12"]);
+    assert_eq!(
+        items("A1B2C3D4 49514443 00011004"),
+        ["skipped 0 12 searching"]
+    );
 }
 
 #[test]
 fn case_7_size_six() {
-    assert_eq!(items("A1B2C3D4 49514443 00000006"), ["skipped 0 12"]);
+    assert_eq!(
+        items("A1B2C3D4 49514443 00000006"),
+        ["skipped 0 12 searching"]
+    );
 }
 
 #[test]
 fn case_8_two_bytes_before() {
     assert_eq!(
         items(&format!("A1B2 {IQDC}")),
-        ["skipped 0 2", "IQDC 2 good"]
+        ["skipped 0 2 searching", "IQDC 2 good"]
     );
 }
 
@@ -82,8 +90,25 @@ fn case_8_two_bytes_before() {
 fn case_9_sync_before() {
     assert_eq!(
         items(&format!("A1B2C3D4 {IQDC}")),
-        ["skipped 0 4", "IQDC 4 good"]
+        ["skipped 0 4 searching", "IQDC 4 good"]
     );
+}
+
+/// The bytes of cases 2, 6, 7, 8 and 9 behind a chunk, which puts the reader
+/// in step. In case 9 the type of the chunk stands where the size of the header
+/// before it is looked for.
+#[test]
+fn cases_that_skip_in_step() {
+    for (bytes, skipped) in [
+        ("A1B2C3", "skipped 12 3 sync"),
+        ("A1B2C3D4 49514443 00011004", "skipped 12 12 large"),
+        ("A1B2C3D4 49514443 00000006", "skipped 12 12 uneven"),
+        (&format!("A1B2 {IQDC}"), "skipped 12 2 sync"),
+        (&format!("A1B2C3D4 {IQDC}"), "skipped 12 4 large"),
+    ] {
+        let found = items(&format!("{IQDC} {bytes}"));
+        assert_eq!(found[..2], ["IQDC 0 good", skipped]);
+    }
 }
 
 #[test]

@@ -45,6 +45,7 @@ fn dropped_link() {
         \x20 CF__ 98500000000000\n\
         \x20 samples 0 4 1000 2000 3000 4000\n\
         skip 84 20\n\
+        \x20 cause sync\n\
         chunk 104 SIQP 4 ok\n\
         chunk 120 SR__ 8 ok\n\
         chunk 140 SSNC 16 ok\n\
@@ -130,4 +131,31 @@ fn notes() {
             "  text ",
         ]
     );
+}
+
+#[test]
+fn lost_step() {
+    let expected = "pxgf big 163\n\
+        skip 0 4\n\
+        \x20 cause searching\n\
+        chunk 4 SIQP 4 ok\n\
+        chunk 20 SR__ 8 ok\n\
+        chunk 40 SSNC 12 ok\n\
+        \x20 time 1700000000000000000\n\
+        \x20 mark 1\n\
+        \x20 SIQP 1\n\
+        \x20 SR__ 48000000000\n\
+        \x20 samples 0 2 100 -100\n\
+        skip 64 15\n\
+        \x20 cause sync\n\
+        chunk 79 SR__ 8 ok\n\
+        skip 99 12\n\
+        \x20 cause large\n\
+        chunk 111 SIQP 4 ok\n\
+        skip 127 12\n\
+        \x20 cause uneven\n\
+        chunk 139 SSNC 12 wait 21\n\
+        \x20 time 1700000001000000000\n\
+        end 10\n";
+    assert_eq!(dump(&recording("lost-step.pxgf")), expected);
 }

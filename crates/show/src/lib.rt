@@ -3,6 +3,7 @@ mod channels;
 mod chunk;
 mod line;
 mod numbers;
+mod skip;
 mod values;
 
 use frame::OrderFound;
@@ -26,7 +27,8 @@ pub fn print(t: Text) {
     write(&bytes, t.len);
 }
 
-// Writes the dump of a stream to standard output: its listing, with what each chunk shows under the chunk's line.
+// Writes the dump of a stream to standard output: its listing, with why bytes were skipped under the line of these, and what
+// a chunk shows under the chunk's line.
 pub fn dump(s: &[u8]) {
     if lister::MOST < s.len() {
         print(listing::long_line());
@@ -47,6 +49,7 @@ fn ordered(order: Order, s: &[u8]) {
         let stepped = cursor.step(order, s);
         let item = stepped.item;
         print(listing::item_line(item));
+        skip::shown(item);
         chunk::shown(order, s, stepped);
         let next = stepped.cursor;
         cursor = next;

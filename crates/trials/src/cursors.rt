@@ -4,6 +4,7 @@ use crate::answer::more;
 use crate::answer::refused;
 use effect::Verdict;
 use num::Order;
+use reader::Cause;
 use reader::Cursor;
 use reader::Item;
 use state::State;
@@ -56,7 +57,11 @@ fn told(item: Item, digest: u64) -> u64 {
         Item::PastEnd => refused(digest, 2),
         Item::BadState => refused(digest, 3),
         Item::End => more(digest, 0),
-        Item::Skipped { place, length } => stretch(more(digest, 1), place, length),
+        Item::Skipped {
+            place,
+            length,
+            cause,
+        } => more(stretch(more(digest, 1), place, length), reason(cause)),
         Item::Unfinished { place, length } => stretch(more(digest, 2), place, length),
         Item::Chunk {
             place,
@@ -64,6 +69,16 @@ fn told(item: Item, digest: u64) -> u64 {
             size,
             verdict,
         } => chunk(more(digest, 3), place, code, size, number(verdict)),
+    }
+}
+
+// A number for each cause.
+fn reason(cause: Cause) -> u64 {
+    match cause {
+        Cause::Searching => 0,
+        Cause::NoSync => 1,
+        Cause::Large => 2,
+        Cause::Uneven => 3,
     }
 }
 

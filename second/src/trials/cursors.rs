@@ -5,6 +5,7 @@ use super::{Digest, Met, PATTERN, ROOM, SHORT};
 use crate::cursor::{AnyState, Cursor, Held, HeldGroup, HeldList};
 use crate::order::Order;
 use crate::reader::{Item, Verdict, NO_COVER};
+use crate::walk::Cause;
 
 const MINUS_ZERO: u32 = 0x8000_0000;
 const INFINITE: u32 = 0x7F80_0000;
@@ -58,7 +59,15 @@ fn step(cursor: &Cursor, order: Order, stream: &[u8], digest: &mut Digest, met: 
 fn numbers(item: &Option<Item>) -> Vec<u64> {
     match item {
         None => vec![0],
-        Some(Item::Skipped { place, len }) => vec![1, *place as u64, *len as u64],
+        Some(Item::Skipped { place, len, cause }) => {
+            let cause = match cause {
+                Cause::WasSearching => 0,
+                Cause::SyncMissing => 1,
+                Cause::SizePastLimit => 2,
+                Cause::SizePartWord => 3,
+            };
+            vec![1, *place as u64, *len as u64, cause]
+        }
         Some(Item::Unfinished { place, len }) => vec![2, *place as u64, *len as u64],
         Some(Item::Chunk { frame, verdict, .. }) => {
             let verdict = match verdict {

@@ -37,6 +37,9 @@ print-requires-2 c κs = search needs
 shown-requires : tie.Need-shown-requires Inv-loop μ-loop
 shown-requires c κs = search needs
 
+shown-requires-2 : tie.Need-shown-requires-2 Inv-loop μ-loop
+shown-requires-2 c κs = search needs
+
 add-counter : tie.Need-add-counter Inv-loop μ-loop
 add-counter c = search needs
 
@@ -70,6 +73,7 @@ ordered-spec =
     item-line-requires
     print-requires-2
     shown-requires
+    shown-requires-2
     add-counter
     loop-less
     loop-again
