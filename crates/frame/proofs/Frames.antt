@@ -37,13 +37,13 @@ pub record Header (o : Order) (l : List ℕ) (t n : ℕ) : Type 0 where
   pub good : goodSize n ≡ true
   pub fits : 12 + n ≤ length l
 
-complete-by : (u m t n : ℕ) (z : BadSize) (a b c d : Bool) → pick a (pick b Unfinished (pick c (pick d (Complete u m) Unfinished) (Bad z))) NoSync ≡ Complete t n →
+complete-by : (u m t n : ℕ) (w : BadSize) (a b c d : Bool) → pick a (pick b Unfinished (pick c (pick d (Complete u m) Unfinished) (Bad w))) NoSync ≡ Complete t n →
     (a ≡ true) × (b ≡ false) × (c ≡ true) × (d ≡ true) × (u ≡ t) × (m ≡ n)
-complete-by u m t n z true false true true e = (refl, refl, refl, refl, cc, cc)
-complete-by u m t n z true false true false e = let z : _≡_ {A = ℕ} 0 1 = cc in absurd (omega arith)
-complete-by u m t n z true false false d e = let z : _≡_ {A = ℕ} 0 1 = cc in absurd (omega arith)
-complete-by u m t n z true true c d e = let z : _≡_ {A = ℕ} 0 1 = cc in absurd (omega arith)
-complete-by u m t n z false b c d e = let z : _≡_ {A = ℕ} 0 1 = cc in absurd (omega arith)
+complete-by u m t n w true false true true e = (refl, refl, refl, refl, cc, cc)
+complete-by u m t n w true false true false e = let z : _≡_ {A = ℕ} 0 1 = cc in absurd (omega arith)
+complete-by u m t n w true false false d e = let z : _≡_ {A = ℕ} 0 1 = cc in absurd (omega arith)
+complete-by u m t n w true true c d e = let z : _≡_ {A = ℕ} 0 1 = cc in absurd (omega arith)
+complete-by u m t n w false b c d e = let z : _≡_ {A = ℕ} 0 1 = cc in absurd (omega arith)
 
 pub complete : (o : Order) (l : List ℕ) (t n : ℕ) → shows o l ≡ Complete t n → Header o l t n
 unfolding shows

@@ -46,8 +46,8 @@ module _ (o : Order) (s : List ℕ) where
             cc,
       )
 
-  -- The cause that a call names for a stretch from p on, exactly when: the cursor came searching; or it came in step, and
-  -- there the stream shows no sync, a bad header that is too large, or one that is uneven.
+  -- The cause that a call names for a stretch from p on, exactly when: the cursor came searching; or it came in step, and at
+  -- p the stream shows no sync, a header whose size is too large, or one whose size is uneven.
   pub cause-exactly : (c : Cursor) (a : StepCall) → StepOn o s c a → (p n : ℕ) (cause : Cause) → a .result .item ≡ Skipped p n cause →
       (k : Cause) → (cause ≡ k) ↔ CauseDue (c .«in_step») (showsAt o s p) k
   cause-exactly c a on p n cause e k = why-exactly c p n cause (sym (step-met o s c a on .item) ∙ ap itemSaid e) k
@@ -115,8 +115,8 @@ module _ (o : Order) (s : List ℕ) where
       rw (after-suc k o s newCursor, lt-ltb 0 (suc k) (omega arith))
       (came-in-step (after k o s newCursor) (sound-after k newCursor (new-sound s)) p n cause (rw (after-suc k o s newCursor) at e))
 
-  -- The cause of item k of a stream, where it is skipped, exactly when: searching for the first item; for any other no sync, a
-  -- bad header that is too large or one that is uneven, by what the stream shows at its place.
+  -- The cause of item k of a stream, where that item is skipped, exactly when: searching for the first item; for any other, by
+  -- what the stream shows at its place: no sync, a header whose size is too large, or one whose size is uneven.
   pub listed-cause : (k p n : ℕ) (cause : Cause) → k < length (items o s) → givenAt (items o s) k .item ≡ skipped p n cause →
       (x : Cause) → (cause ≡ x) ↔ CauseDue (ltb 0 k) (showsAt o s p) x
   listed-cause k p n cause h e x =

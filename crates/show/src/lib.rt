@@ -27,8 +27,8 @@ pub fn print(t: Text) {
     write(&bytes, t.len);
 }
 
-// Writes the dump of a stream to standard output: its listing, with why bytes were skipped under the line of these, and what
-// a chunk shows under the chunk's line.
+// Writes the dump of a stream to standard output: its listing, and under an item's line why bytes were skipped or what the
+// chunk shows.
 pub fn dump(s: &[u8]) {
     if lister::MOST < s.len() {
         print(listing::long_line());
