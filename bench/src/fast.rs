@@ -22,13 +22,19 @@ pub fn count(order: Order, stream: &[u8]) -> usize {
 /// The lowest place, from `from` on, that shows a complete or an unfinished chunk.
 pub fn search(order: Order, stream: &[u8], from: usize) -> Option<usize> {
     let mut from = from;
-    loop {
-        let place = find_word(stream, order.sync(), from)?;
+    while let Some(place) = find_word(stream, order.sync(), from) {
         match look(order, stream, place) {
             Look::Complete(_) | Look::Unfinished => return Some(place),
             Look::NoSync | Look::Bad(_) => from = place + 1,
         }
     }
+    begun_word(order, stream, from)
+}
+
+/// The place, from `from` on, of a sync word that the end of the stream cuts off. It is one of the last three.
+pub fn begun_word(order: Order, stream: &[u8], from: usize) -> Option<usize> {
+    let first = from.max(stream.len().saturating_sub(3));
+    (first..stream.len()).find(|place| look(order, stream, *place) == Look::Unfinished)
 }
 
 /// The lowest place, from `from` on, where the four bytes of `word` stand.
@@ -85,14 +91,18 @@ fn covers(layout: &GroupPacking, pairs: usize) -> bool {
     taken.count_ones() as usize == channels
 }
 
+/// Whether a walk by the fast search gives the items of the plain one, in both orders.
+fn walks_alike(stream: &[u8]) -> bool {
+    [Order::Big, Order::Little].into_iter().all(|order| {
+        let walk = Walk::new(order, stream);
+        walk.clone().by(search).eq(walk)
+    })
+}
+
 /// Stops the program unless both give the answers of the plain ones, on many streams and layouts.
 pub fn agrees() {
     for seed in 0..300 {
-        let stream = make(seed);
-        for order in [Order::Big, Order::Little] {
-            let walk = Walk::new(order, &stream);
-            assert!(walk.clone().by(search).eq(walk), "seed {seed}");
-        }
+        assert!(walks_alike(&make(seed)), "seed {seed}");
     }
     let mut rng = Rng::new(1);
     for _ in 0..200_000 {
@@ -106,5 +116,50 @@ pub fn agrees() {
         };
         let plain = second::cover::covers(&layout, pairs);
         assert_eq!(covers(&layout, pairs), plain, "{layout:?} {pairs}");
+    }
+}
+
+#[cfg(test)]
+mod tests {
+    use super::*;
+
+    #[test]
+    fn made_streams_and_layouts() {
+        agrees();
+    }
+
+    /// Every beginning of some streams, so that many end inside a sync word.
+    #[test]
+    fn streams_cut_anywhere() {
+        for stream in (0..300).map(make).filter(|s| s.len() < 600) {
+            for len in 0..stream.len() {
+                let part = &stream[..len];
+                assert!(walks_alike(part), "{part:02X?}");
+            }
+        }
+    }
+
+    /// Beginnings of both sync words at the end of stretches about one block and two.
+    #[test]
+    fn begun_words_about_a_block() {
+        for word in [Order::Big.sync(), Order::Little.sync()] {
+            for before in 0..2 * BLOCK + 5 {
+                for len in 1..=4 {
+                    let mut stream = vec![word[0]; before];
+                    stream.extend(&word[..len]);
+                    assert!(walks_alike(&stream), "{stream:02X?}");
+                }
+            }
+        }
+    }
+
+    #[test]
+    fn only_places_from_the_given_one_on() {
+        let stream = [0, 0xA1, 0xB2, 0xA1];
+        let found = [0, 1, 2, 3, 4, 5].map(|from| search(Order::Big, &stream, from));
+        assert_eq!(found, [Some(3), Some(3), Some(3), Some(3), None, None]);
+        assert_eq!(search(Order::Big, &stream[..3], 0), Some(1));
+        assert_eq!(search(Order::Big, &stream[..3], 2), None);
+        assert_eq!(search(Order::Little, &stream, 0), None);
     }
 }

@@ -1,5 +1,6 @@
 //! The search as std alone has it, and as a plain loop.
 
+use crate::fast::begun_word;
 use second::frame::{look, Look};
 use second::Order;
 use std::io::BufRead;
@@ -26,7 +27,8 @@ pub fn by_windows(order: Order, s: &[u8]) -> usize {
     let word = order.sync();
     let stops = |p: &usize| matches!(look(order, s, *p), Look::Complete(_) | Look::Unfinished);
     let places = s.windows(4).enumerate().filter(|(_, w)| *w == word);
-    places.map(|(p, _)| p).find(stops).unwrap_or(s.len())
+    let found = places.map(|(p, _)| p).find(stops);
+    found.or_else(|| begun_word(order, s, 0)).unwrap_or(s.len())
 }
 
 /// The search place by place, byte by byte.
@@ -45,5 +47,27 @@ pub fn by_bytes(order: Order, s: &[u8]) -> usize {
         }
         p += 1;
     }
-    s.len()
+    begun_word(order, s, p).unwrap_or(s.len())
+}
+
+#[cfg(test)]
+mod tests {
+    use super::*;
+    use second::make::make;
+
+    /// Each finds the place that the plain search finds, on every beginning of some streams.
+    #[test]
+    fn all_are_the_search() {
+        for stream in (0..300).map(make).filter(|s| s.len() < 600) {
+            for len in 0..=stream.len() {
+                for order in [Order::Big, Order::Little] {
+                    let s = &stream[..len];
+                    let place = second::search(order, s, 0).unwrap_or(len);
+                    for search in [by_memchr, by_windows, by_bytes] {
+                        assert_eq!(search(order, s), place, "{s:02X?}");
+                    }
+                }
+            }
+        }
+    }
 }

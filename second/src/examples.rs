@@ -5,11 +5,14 @@ use std::fmt::Write;
 use crate::compose::Composer;
 use crate::dump::dump;
 use crate::kind::{Kind, Width};
-use crate::list::listing;
+use crate::list::{item_line, line, listing, MOST_BYTES};
 use crate::order::Order;
-use crate::reader::{Item, Reader, Verdict};
+use crate::reader::{Bookmark, Item, Reader, Verdict};
 use crate::samples::Ready;
 use crate::search::find_order;
+
+/// The most bytes that `follow` reads at once.
+const PART: usize = 64;
 
 /// A line for each item, and below a ready chunk of 16-bit numbers those of
 /// channel 0. The lines around the items are left out.
@@ -80,6 +83,45 @@ pub fn peaks(bytes: &[u8]) -> String {
         text.push('\n');
     }
     text
+}
+
+/// A recording followed while it grows, part by part, up to the most bytes of a
+/// listing: after each part how many bytes there are so far, and a line for
+/// each item found behind those before. An unfinished end waits for the next
+/// part, and has its line only if none comes.
+pub fn follow(bytes: &[u8]) -> String {
+    let bytes = &bytes[..bytes.len().min(MOST_BYTES)];
+    let mut text = String::new();
+    let mut order = None;
+    let mut bookmark = Bookmark::default();
+    let mut read = 0;
+    while read < bytes.len() {
+        read = bytes.len().min(read + PART);
+        line(&mut text, format_args!("read {read}"));
+        let so_far = &bytes[..read];
+        order = order.or_else(|| find_order(so_far));
+        if let Some(order) = order {
+            bookmark = read_on(&mut text, Reader::at(order, so_far, &bookmark));
+        }
+    }
+    if let Some(order) = order {
+        for end in Reader::at(order, bytes, &bookmark) {
+            item_line(&mut text, &end);
+        }
+    }
+    text
+}
+
+/// Adds a line for each item before an unfinished end, and gives the bookmark
+/// there; or at the end of the stream, if it is whole.
+fn read_on(text: &mut String, mut reader: Reader) -> Bookmark {
+    loop {
+        let before = reader.bookmark();
+        match reader.next() {
+            None | Some(Item::Unfinished { .. }) => return before,
+            Some(item) => item_line(text, &item),
+        }
+    }
 }
 
 /// The 16-bit numbers of a channel, if the chunk has such.

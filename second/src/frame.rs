@@ -41,7 +41,8 @@ pub enum Look {
     NoSync,
     /// Sync and a whole header whose size is not good.
     Bad(SizeFault),
-    /// Sync, but the header or the body runs past the end.
+    /// Sync, but the header or the body runs past the end; or the sync word
+    /// itself does, its first bytes being all that is left.
     Unfinished,
     Complete(Frame),
 }
@@ -51,10 +52,22 @@ pub fn size_is_good(size: u32) -> bool {
     size <= LARGEST_BODY && size.is_multiple_of(4)
 }
 
+/// What the last bytes of a stream show, fewer than a sync word has: if they are
+/// its first ones, a chunk may begin there.
+fn look_at_last(order: Order, rest: &[u8]) -> Look {
+    match !rest.is_empty() && order.sync().starts_with(rest) {
+        true => Look::Unfinished,
+        false => Look::NoSync,
+    }
+}
+
 #[inline]
 pub fn look(order: Order, stream: &[u8], place: usize) -> Look {
     let rest = stream.get(place..).unwrap_or_default();
-    if !rest.starts_with(&order.sync()) {
+    let Some((word, _)) = rest.split_first_chunk::<4>() else {
+        return look_at_last(order, rest);
+    };
+    if *word != order.sync() {
         return Look::NoSync;
     }
     let Some((header, after)) = rest.split_first_chunk::<HEADER>() else {

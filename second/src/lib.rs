@@ -43,7 +43,7 @@ pub use body::{Body, Fault};
 pub use check::check_text;
 pub use kind::Kind;
 pub use order::Order;
-pub use reader::{Item, Reader, Verdict};
+pub use reader::{Bookmark, Item, Reader, Verdict};
 pub use samples::{CopyRefusal, Ready};
 pub use search::{find_order, search};
 pub use walk::{Cause, Walk};

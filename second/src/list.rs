@@ -28,17 +28,7 @@ pub fn listing(bytes: &[u8], detail: impl Fn(&Item, &mut String)) -> String {
     let mut items = 0;
     for item in Reader::new(order, bytes) {
         items += 1;
-        match &item {
-            Item::Skipped { place, len, .. } => {
-                line(&mut text, format_args!("skip {place} {len}"));
-            }
-            Item::Unfinished { place, len } => line(&mut text, format_args!("cut {place} {len}")),
-            Item::Chunk {
-                frame,
-                kind,
-                verdict,
-            } => chunk_line(&mut text, *frame, *kind, verdict),
-        }
+        item_line(&mut text, &item);
         detail(&item, &mut text);
     }
     line(&mut text, format_args!("end {items}"));
@@ -49,6 +39,19 @@ pub fn listing(bytes: &[u8], detail: impl Fn(&Item, &mut String)) -> String {
 pub fn line(text: &mut String, words: std::fmt::Arguments) {
     let _ = text.write_fmt(words);
     text.push('\n');
+}
+
+/// Adds the line of one item.
+pub fn item_line(text: &mut String, item: &Item) {
+    match item {
+        Item::Skipped { place, len, .. } => line(text, format_args!("skip {place} {len}")),
+        Item::Unfinished { place, len } => line(text, format_args!("cut {place} {len}")),
+        Item::Chunk {
+            frame,
+            kind,
+            verdict,
+        } => chunk_line(text, *frame, *kind, verdict),
+    }
 }
 
 fn chunk_line(text: &mut String, frame: Frame, kind: Option<Kind>, verdict: &Verdict) {

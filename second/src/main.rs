@@ -16,6 +16,7 @@ const USAGE: &str = "usage: second list FILE
        second first FILE
        second records
        second peaks FILE
+       second follow FILE
        second make SEED
        second verdicts FILE...
        second samples DIR
@@ -46,6 +47,7 @@ fn run(words: &[&str]) -> Result<ExitCode, String> {
         ["first", file] => print(examples::first(&read_for_listing(file)?).as_bytes()),
         ["records"] => print(examples::records().as_bytes()),
         ["peaks", file] => print(examples::peaks(&read_for_listing(file)?).as_bytes()),
+        ["follow", file] => print(examples::follow(&read_for_listing(file)?).as_bytes()),
         ["make", seed] => print(&make::make(parse_number(seed)?)),
         ["verdicts", files @ ..] if !files.is_empty() => count_verdicts(files),
         ["samples", dir] => write_samples(Path::new(dir)),

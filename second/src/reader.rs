@@ -16,7 +16,7 @@ pub const NO_COVER: u32 = 16;
 /// One stretch of the stream, held in place so that reading needs no memory
 /// beside the stream.
 #[allow(clippy::large_enum_variant)]
-#[derive(Clone, Debug)]
+#[derive(Clone, Debug, PartialEq, Eq)]
 pub enum Item<'a> {
     Skipped {
         place: usize,
@@ -36,7 +36,7 @@ pub enum Item<'a> {
 
 /// What a reader says of an accepted chunk.
 #[allow(clippy::large_enum_variant)]
-#[derive(Clone, Debug)]
+#[derive(Clone, Debug, PartialEq, Eq)]
 pub enum Verdict<'a> {
     /// A type with no rules of its own.
     Unknown,
@@ -54,6 +54,18 @@ pub enum Verdict<'a> {
 
 /// Whether a layout covers so many pairs.
 pub type Cover = fn(&GroupPacking, usize) -> bool;
+
+/// Where a reader stands, and all that it knows there. A reader goes on from it
+/// in the same stream or in a longer one with the same beginning; the default
+/// is where every reader starts.
+#[derive(Clone, Copy, Debug, Default, PartialEq, Eq)]
+pub struct Bookmark {
+    pub place: usize,
+    pub in_step: bool,
+    pub state: State,
+    /// The start mark.
+    pub start: bool,
+}
 
 /// Gives the items of a stream one after the other.
 #[derive(Clone, Debug)]
@@ -76,6 +88,21 @@ impl<'a> Reader<'a> {
             state,
             start,
             covers,
+        }
+    }
+
+    /// From a bookmark that isn't past the end.
+    pub fn at(order: Order, stream: &'a [u8], bookmark: &Bookmark) -> Self {
+        let walk = Walk::at(order, stream, bookmark.place, bookmark.in_step);
+        Reader::from(walk, bookmark.state, bookmark.start)
+    }
+
+    pub fn bookmark(&self) -> Bookmark {
+        Bookmark {
+            place: self.walk.place(),
+            in_step: self.walk.in_step(),
+            state: self.state,
+            start: self.start,
         }
     }
 

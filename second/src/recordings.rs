@@ -21,6 +21,7 @@ pub fn all() -> Vec<(&'static str, Vec<u8>)> {
         ("damaged.pxgf", damaged()),
         ("notes.pxgf", notes()),
         ("lost-step.pxgf", lost_step()),
+        ("still-running.pxgf", still_running()),
     ]
 }
 
@@ -184,5 +185,30 @@ fn lost_step() -> Vec<u8> {
         .int(Kind::Siqp, 1)
         .header(Kind::Cf.code(), 10)
         .shorts(Kind::Ssnc, NOON + SECOND, &[200, -200]);
+    stream.into_bytes()
+}
+
+/// A recording that goes on while it is read: a link that dropped inside a
+/// chunk and came back, and a last sync word of which only three bytes are
+/// written yet. In parts of 64 bytes, the skipped bytes come in two pieces, and
+/// the third part ends inside a sync word.
+fn still_running() -> Vec<u8> {
+    let numbers = |from: i16| -> Vec<i16> { (from..from + 9).flat_map(|k| [k, -k]).collect() };
+    let mut lost = Composer::new(Order::Big);
+    lost.shorts(Kind::Ssnc, NOON + SECOND, &numbers(10));
+    // The header and two bytes of the time never arrived.
+    let arrived = &lost.bytes()[14..];
+
+    let mut stream = Composer::new(Order::Big);
+    stream
+        .int(Kind::Siqp, 1)
+        .long(Kind::Sr, 48 * KILOHERTZ)
+        .long(Kind::Cf, 145 * MEGAHERTZ)
+        .shorts(Kind::Ssnc, NOON, &numbers(1))
+        .raw(arrived)
+        .int(Kind::Siqp, 1)
+        .long(Kind::Sr, 48 * KILOHERTZ)
+        .shorts(Kind::Ssnc, NOON + 2 * SECOND, &numbers(20))
+        .raw(&Order::Big.sync()[..3]);
     stream.into_bytes()
 }

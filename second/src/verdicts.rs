@@ -8,8 +8,9 @@ use crate::possible::{can_miss_cover, faults, lacks};
 use crate::reader::NO_COVER;
 use crate::walk::Cause;
 
-/// A kind and its verdict; `line` and a word for what has no kind; `pxgf`
-/// and the order for first lines; `cause` and its word for what is skipped.
+/// A kind and its verdict; `line` and a word for what has no kind, `tail` for
+/// an unfinished end with less than a sync word; `pxgf` and the order for first
+/// lines; `cause` and its word for what is skipped.
 pub type Pair = (String, String);
 
 #[derive(Clone, Debug, Default)]
@@ -59,14 +60,12 @@ fn pair_of(line: &str) -> Option<Pair> {
     let words: Vec<&str> = line.split(' ').collect();
     let pair = |kind: &str, verdict: String| Some((kind.to_owned(), verdict));
     match words[..] {
-        ["long" | "none"] | ["skip" | "cut", _, _] | ["chunk", _, _, _, "unknown"] => {
-            let word = if words[0] == "chunk" {
-                "unknown"
-            } else {
-                words[0]
-            };
-            pair("line", word.to_owned())
+        ["long" | "none"] | ["skip", _, _] => pair("line", words[0].to_owned()),
+        ["cut", _, len] => {
+            let short = len.parse::<usize>().ok()? < 4;
+            pair("line", if short { "tail" } else { "cut" }.to_owned())
         }
+        ["chunk", _, _, _, "unknown"] => pair("line", "unknown".to_owned()),
         ["", "", "cause", word] => pair("cause", word.to_owned()),
         ["pxgf", order, _] => pair("pxgf", order.to_owned()),
         ["chunk", _, kind, _, verdict] => pair(kind, verdict.to_owned()),
@@ -79,7 +78,7 @@ fn pair_of(line: &str) -> Option<Pair> {
 pub fn table() -> BTreeSet<Pair> {
     let mut table = BTreeSet::new();
     let mut add = |kind: &str, verdict: String| table.insert((kind.to_owned(), verdict));
-    for word in ["skip", "cut", "unknown", "none", "long"] {
+    for word in ["skip", "cut", "tail", "unknown", "none", "long"] {
         add("line", word.to_owned());
     }
     for cause in Cause::ALL {

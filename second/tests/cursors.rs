@@ -4,7 +4,7 @@ use second::compose::Composer;
 use second::cursor::{AnyState, Cursor, Held, HeldGroup};
 use second::kind::Kind;
 use second::order::Order;
-use second::{Item, Verdict};
+use second::{Cause, Item, Verdict};
 
 /// A rate and a chunk of two reals behind it, which begins at 20.
 fn stream() -> Vec<u8> {
@@ -88,6 +88,32 @@ fn a_good_state_is_used() {
     assert_eq!(numbers, [33, 34, 35, 35, 35].map(Err));
     // A step from inside the chunk skips what is left of it.
     let step = at(21, true, rated(1)).step(Order::Big, &stream).unwrap();
+    assert_eq!((step.place, step.in_step), (stream.len(), false));
+}
+
+/// At a begun sync word the cursor moves to the end, and is in step if it was.
+#[test]
+fn a_begun_sync_word_keeps_the_step() {
+    let mut stream = stream();
+    let place = stream.len();
+    stream.extend([0xA1, 0xB2]);
+    for in_step in [true, false] {
+        let step = at(place, in_step, rated(1))
+            .step(Order::Big, &stream)
+            .unwrap();
+        assert_eq!(step.item, Some(Item::Unfinished { place, len: 2 }));
+        assert_eq!((step.place, step.in_step), (stream.len(), in_step));
+    }
+    // From its second byte on it is none.
+    let step = at(place + 1, true, rated(1))
+        .step(Order::Big, &stream)
+        .unwrap();
+    let skipped = Item::Skipped {
+        place: place + 1,
+        len: 1,
+        cause: Cause::SyncMissing,
+    };
+    assert_eq!(step.item, Some(skipped));
     assert_eq!((step.place, step.in_step), (stream.len(), false));
 }
 

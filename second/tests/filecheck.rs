@@ -104,6 +104,21 @@ fn loose_bytes() {
     );
 }
 
+/// A file that ends inside a sync word isn't whole, in its header or behind it.
+#[test]
+fn begun_sync_words() {
+    for len in 1..4 {
+        let tail = &Order::Big.sync()[..len];
+        assert_eq!(answer(big().raw(tail)), Err((41, 0)));
+        assert_eq!(answer(started().raw(tail)), Err((44, 16)));
+        assert_eq!(answer(started().empty(Kind::Eofh).raw(tail)), Err((44, 28)));
+        assert_eq!(
+            answer(started().int(Kind::Sofh, 1).raw(tail)),
+            Err((43, 16))
+        );
+    }
+}
+
 #[test]
 fn first_in_file_order() {
     // Loose bytes before the missing end of the header.

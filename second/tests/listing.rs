@@ -41,6 +41,9 @@ fn the_example() {
 fn nothing_to_list() {
     assert_eq!(list(&[]), "none\n");
     assert_eq!(list(&hex("A1B2C3 D3 D4C3B2 A2")), "none\n");
+    // The order needs a whole sync word.
+    assert_eq!(list(&hex("A1B2C3")), "none\n");
+    assert_eq!(list(&hex("00 D4C3B2")), "none\n");
 }
 
 #[test]
@@ -107,6 +110,20 @@ fn little_order() {
     assert_eq!(
         list(&input),
         "pxgf little 26\nchunk 0 IQDC 0 ok\ncut 12 14\nend 2\n"
+    );
+}
+
+#[test]
+fn a_begun_sync_word_is_unfinished() {
+    let input = hex("A1B2C3D4 49514443 00000000 A1");
+    assert_eq!(
+        list(&input),
+        "pxgf big 13\nchunk 0 IQDC 0 ok\ncut 12 1\nend 2\n"
+    );
+    let input = hex("D4C3B2A1 43445149 00000000 0000 D4C3B2");
+    assert_eq!(
+        list(&input),
+        "pxgf little 17\nchunk 0 IQDC 0 ok\nskip 12 2\ncut 14 3\nend 3\n"
     );
 }
 

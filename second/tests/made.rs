@@ -19,14 +19,14 @@ fn every_possible_verdict_is_met() {
 }
 
 /// 22 ok; 22 with 11, 10 with 12, 3 with 13, TEXT with 14 and 15, 2 with 16;
-/// 4 with 21, 6 with 22, 3 with 23; 5 lines without a kind, 4 causes and 2
+/// 4 with 21, 6 with 22, 3 with 23; 6 lines without a kind, 4 causes and 2
 /// orders.
 #[test]
 fn size_of_the_table() {
     let table = table();
     assert_eq!(
         table.len(),
-        22 + 22 + 10 + 3 + 2 + 2 + 4 + 6 + 3 + 5 + 4 + 2
+        22 + 22 + 10 + 3 + 2 + 2 + 4 + 6 + 3 + 6 + 4 + 2
     );
     let has = |kind: &str, verdict: &str| table.contains(&(kind.into(), verdict.into()));
     assert!(has("SSNR", "wait 22") && !has("SSNR", "wait 21") && !has("SSNR", "wait 23"));
@@ -34,6 +34,22 @@ fn size_of_the_table() {
     assert!(has("GSNC", "bad 16") && !has("SSNC", "bad 16"));
     assert!(!has("CF__", "bad 12") && !has("GCF_", "bad 12") && has("GRG_", "bad 12"));
     assert!(!has("TEXT", "bad 12") && !has("SOFH", "bad 12"));
+    assert!(has("line", "cut") && has("line", "tail"));
+}
+
+/// An unfinished end is a tail if it has less than a sync word.
+#[test]
+fn ends_of_both_sorts() {
+    let mut verdicts = Verdicts::default();
+    verdicts
+        .add("cut 0 1\ncut 7 3\ncut 7 4\ncut 0 80\ncut 9 5\n")
+        .unwrap();
+    let counts: Vec<(&str, usize)> = verdicts
+        .counts()
+        .map(|((_, word), count)| (word.as_str(), count))
+        .collect();
+    assert_eq!(counts, [("cut", 3), ("tail", 2)]);
+    assert_eq!(verdicts.add("cut 0 some"), Err("cut 0 some".to_owned()));
 }
 
 #[test]

@@ -44,7 +44,9 @@ fn case_1_empty() {
 
 #[test]
 fn case_2_three_bytes() {
-    assert_eq!(items("A1B2C3"), ["skipped 0 3 searching"]);
+    assert_eq!(items("A1B2C3"), ["unfinished 0 3"]);
+    let in_step = items(&format!("{IQDC} A1B2C3"));
+    assert_eq!(in_step, ["IQDC 0 good", "unfinished 12 3"]);
 }
 
 #[test]
@@ -94,13 +96,12 @@ fn case_9_sync_before() {
     );
 }
 
-/// The bytes of cases 2, 6, 7, 8 and 9 behind a chunk, which puts the reader
-/// in step. In case 9 the type of the chunk stands where the size of the header
+/// The bytes of cases 6, 7, 8 and 9 behind a chunk, which puts the reader in
+/// step. In case 9 the type of the chunk stands where the size of the header
 /// before it is looked for.
 #[test]
 fn cases_that_skip_in_step() {
     for (bytes, skipped) in [
-        ("A1B2C3", "skipped 12 3 sync"),
         ("A1B2C3D4 49514443 00011004", "skipped 12 12 large"),
         ("A1B2C3D4 49514443 00000006", "skipped 12 12 uneven"),
         (&format!("A1B2 {IQDC}"), "skipped 12 2 sync"),

@@ -159,3 +159,34 @@ fn lost_step() {
         end 10\n";
     assert_eq!(dump(&recording("lost-step.pxgf")), expected);
 }
+
+/// SIQP has 16 bytes, SR__ and CF__ 20, and each SSNC of nine pairs 56; of the
+/// third SSNC the last 42 are there. The 145 MHz from before the drop are not
+/// shown behind it.
+#[test]
+fn still_running() {
+    let expected = "pxgf big 249\n\
+        chunk 0 SIQP 4 ok\n\
+        chunk 16 SR__ 8 ok\n\
+        chunk 36 CF__ 8 ok\n\
+        chunk 56 SSNC 44 ok\n\
+        \x20 time 1700000000000000000\n\
+        \x20 mark 1\n\
+        \x20 SIQP 1\n\
+        \x20 SR__ 48000000000\n\
+        \x20 CF__ 145000000000000\n\
+        \x20 samples 0 18 1 -1 2 -2 3 -3 4 -4 5 -5 6 -6 7 -7 8 -8 9 -9\n\
+        skip 112 42\n\
+        \x20 cause sync\n\
+        chunk 154 SIQP 4 ok\n\
+        chunk 170 SR__ 8 ok\n\
+        chunk 190 SSNC 44 ok\n\
+        \x20 time 1700000002000000000\n\
+        \x20 mark 1\n\
+        \x20 SIQP 1\n\
+        \x20 SR__ 48000000000\n\
+        \x20 samples 0 18 20 -20 21 -21 22 -22 23 -23 24 -24 25 -25 26 -26 27 -27 28 -28\n\
+        cut 246 3\n\
+        end 9\n";
+    assert_eq!(dump(&recording("still-running.pxgf")), expected);
+}

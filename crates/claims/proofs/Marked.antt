@@ -20,7 +20,7 @@ use Rattle.reader.specs.Items.{Given, itemsFrom, items}
 use Rattle.reader.specs.Step.{newCursor, stepOf}
 use Rattle.listing.specs.Digits.{decimal, decimalBy, hexDigits}
 use Rattle.listing.specs.Lines.{countLine, stretchLine, chunkLine, listing}
-use Rattle.claims.specs.Marked.{Stream, table, inStep, example, exampleText}
+use Rattle.claims.specs.Marked.{Stream, table, inStep, shortEnds, example, exampleText}
 
 -- the items of a stream in big order
 abbrev pub read : List ℕ → List Item
@@ -35,6 +35,11 @@ marked-cases = (refl, refl, refl)
 pub marked-in-step : map (λ (s : Stream). read (s .bytes)) inStep ≡ map (λ (s : Stream). s .holds) inStep
 unfolding inStep itemsFrom framesBy gap shows starts kindOf kindIn known effect
 marked-in-step = refl
+
+-- ends of one to three bytes: unfinished where they begin the sync word and no chunk covers them
+pub short-ends : map (λ (s : Stream). read (s .bytes)) shortEnds ≡ map (λ (s : Stream). s .holds) shortEnds
+unfolding shortEnds itemsFrom framesBy gap shows starts kindOf kindIn known effect
+short-ends = refl
 
 -- the order of the example is found, it has 73 bytes, and its listing is the text
 pub listing-example : (orderOf example ≡ gives Big) × (length example ≡ 73) × (listing Big (length example) (read example) ≡ exampleText)

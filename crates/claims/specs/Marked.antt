@@ -4,7 +4,7 @@ use Prim.Native.Nat.{ℕ}
 use mathlib.Core.List.{List, [], _∷_, _++_}
 use lib.IntN.{pos}
 use lib.ListN.{length}
-use Rattle.effect.specs.Says.{Says, ok, bad, ready}
+use Rattle.effect.specs.Says.{Says, unknown, ok, bad, ready}
 use Rattle.reader.specs.declared.Cause.the-variants.{Searching, NoSync, Large, Uneven}
 use Rattle.reader.specs.Item.{Item, skipped, unfinished, chunk}
 
@@ -46,7 +46,7 @@ table =
     -- 1: empty
     (record { bytes = []; holds = [] } ∷ [])
     -- 2: three bytes of a sync word
-    ∷ (record { bytes = 0xA1 ∷ 0xB2 ∷ 0xC3 ∷ []; holds = skipped 0 3 Searching ∷ [] } ∷ [])
+    ∷ (record { bytes = 0xA1 ∷ 0xB2 ∷ 0xC3 ∷ []; holds = unfinished 0 3 ∷ [] } ∷ [])
     -- 3: an IQDC chunk
     ∷ (record { bytes = iqdc; holds = chunk 0 0x49514443 0 ok ∷ [] } ∷ [])
     -- 4: its first 8 bytes
@@ -83,16 +83,31 @@ behind bytes items = record { bytes = iqdc ++ bytes; holds = chunk 0 0x49514443 
 -- header that begins before it has its size.
 unfoldable pub inStep : List Stream
 inStep =
-    -- 2
-    behind (0xA1 ∷ 0xB2 ∷ 0xC3 ∷ []) (skipped 12 3 NoSync ∷ [])
     -- 6
-    ∷ behind (header ++ 0 ∷ 1 ∷ 0x10 ∷ 4 ∷ []) (skipped 12 12 Large ∷ [])
+    behind (header ++ 0 ∷ 1 ∷ 0x10 ∷ 4 ∷ []) (skipped 12 12 Large ∷ [])
     -- 7
     ∷ behind (header ++ 0 ∷ 0 ∷ 0 ∷ 6 ∷ []) (skipped 12 12 Uneven ∷ [])
     -- 8
     ∷ behind (0xA1 ∷ 0xB2 ∷ iqdc) (skipped 12 2 NoSync ∷ chunk 14 0x49514443 0 ok ∷ [])
     -- 9
     ∷ behind (0xA1 ∷ 0xB2 ∷ 0xC3 ∷ 0xD4 ∷ iqdc) (skipped 12 4 Large ∷ chunk 16 0x49514443 0 ok ∷ [])
+    ∷ []
+
+-- ends about which a program may go wrong: bytes that begin the sync word, and bytes that do not or that a chunk covers
+unfoldable pub shortEnds : List Stream
+shortEnds =
+    -- one byte, two and three, behind a chunk
+    behind (0xA1 ∷ []) (unfinished 12 1 ∷ [])
+    ∷ behind (0xA1 ∷ 0xB2 ∷ []) (unfinished 12 2 ∷ [])
+    ∷ behind (0xA1 ∷ 0xB2 ∷ 0xC3 ∷ []) (unfinished 12 3 ∷ [])
+    -- behind skipped bytes
+    ∷ behind (0 ∷ 0xA1 ∷ 0xB2 ∷ []) (skipped 12 1 NoSync ∷ unfinished 13 2 ∷ [])
+    -- the second byte of the word, and the first ones of the other order's
+    ∷ behind (0xB2 ∷ []) (skipped 12 1 NoSync ∷ [])
+    ∷ behind (0xD4 ∷ 0xC3 ∷ 0xB2 ∷ []) (skipped 12 3 NoSync ∷ [])
+    -- the last bytes of a chunk, and of a chunk that breaks off
+    ∷ record { bytes = whole 0x41 0x42 0x43 0x44 (0 ∷ 0 ∷ 0xA1 ∷ 0xB2 ∷ []); holds = chunk 0 0x41424344 4 unknown ∷ [] }
+    ∷ record { bytes = header ++ 0 ∷ 0 ∷ 0 ∷ 8 ∷ 0xA1 ∷ []; holds = unfinished 0 13 ∷ [] }
     ∷ []
 
 -- the example of the listing: 00 A1 B2; a CF__ of 1000; an IQDC; a type that no kind has; an SSNC, time 5, pair 1, -1;

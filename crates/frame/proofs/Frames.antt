@@ -6,17 +6,16 @@ use mathlib.Core.Bool.{Bool, true, false}
 use native.Mathlib.Omega.{arith}
 use lib.ListN.{length, getD, drop, take, length-append, length-drop, take-append-drop}
 use lib.Seq.{drop-cons, drop-drop, drop-at, take-at, length-take-le}
-use lib.Dec.{leb, ltb, eqb}
-use borrow.Author.Tests.{ltb-false, leb-true, le-leb}
+use lib.Dec.{leb, eqb}
+use borrow.Author.Tests.{leb-true, le-leb}
 use Rattle.num.specs.Choice.{pick}
 use Rattle.num.specs.Number.{unsigned, bytesOf}
 use Rattle.num.specs.declared.Order.{Order}
 use Rattle.num.proofs.Laws.{Bytes, bytes-length, read-written, written-read}
 use Rattle.num.proofs.Tests.{both-true}
-use Rattle.frame.specs.declared.BadSize.{BadSize}
 use Rattle.frame.specs.declared.At.{At}
 use Rattle.frame.specs.declared.At.the-variants.{NoSync, Bad, Unfinished, Complete}
-use Rattle.frame.specs.Place.{syncBytes, starts, word, typeIn, sizeIn, goodSize, badSize, shows, stops, gap}
+use Rattle.frame.specs.Place.{syncBytes, starts, word, typeIn, sizeIn, goodSize, shows, stops, gap}
 use Rattle.frame.specs.declared.Stray.{Stray}
 use Rattle.frame.specs.declared.Stray.the-variants as Stray
 use Rattle.frame.specs.declared.Ahead.{Ahead}
@@ -25,7 +24,7 @@ use Rattle.frame.specs.Ahead.{aheadBy, aheadOf}
 use Rattle.frame.specs.Ahead as Ahead
 use Rattle.frame.specs.Frames.{Frame, chunk, skipped, unfinished, ofChunk, isChunk, chunkBytes, width, frameAt, first, framesBy, frames}
 use Rattle.frame.proofs.Looks.{is-cut, is-stretch, is-end, ahead-at}
-use Rattle.frame.proofs.Laws.{sync-length, starts-split, starts-self, take-bytes, drop-bytes, shows-headed, gap-pass}
+use Rattle.frame.proofs.Laws.{sync-length, starts-split, starts-self, take-bytes, drop-bytes, shows-headed, shows-by, gap-pass}
 
 -- ---- a complete chunk
 
@@ -37,25 +36,17 @@ pub record Header (o : Order) (l : List ℕ) (t n : ℕ) : Type 0 where
   pub good : goodSize n ≡ true
   pub fits : 12 + n ≤ length l
 
-complete-by : (u m t n : ℕ) (w : BadSize) (a b c d : Bool) → pick a (pick b Unfinished (pick c (pick d (Complete u m) Unfinished) (Bad w))) NoSync ≡ Complete t n →
-    (a ≡ true) × (b ≡ false) × (c ≡ true) × (d ≡ true) × (u ≡ t) × (m ≡ n)
-complete-by u m t n w true false true true e = (refl, refl, refl, refl, cc, cc)
-complete-by u m t n w true false true false e = let z : _≡_ {A = ℕ} 0 1 = cc in absurd (omega arith)
-complete-by u m t n w true false false d e = let z : _≡_ {A = ℕ} 0 1 = cc in absurd (omega arith)
-complete-by u m t n w true true c d e = let z : _≡_ {A = ℕ} 0 1 = cc in absurd (omega arith)
-complete-by u m t n w false b c d e = let z : _≡_ {A = ℕ} 0 1 = cc in absurd (omega arith)
-
 pub complete : (o : Order) (l : List ℕ) (t n : ℕ) → shows o l ≡ Complete t n → Header o l t n
-unfolding shows
-complete o l t n e =
-    let m = sizeIn o l in
-    let h = complete-by (typeIn o l) m t n (badSize m) (starts (syncBytes o) l) (ltb (length l) 12) (goodSize m) (leb m (length l - 12)) e in
-    record {
-      sync = h .0;
-      type = h .4;
-      size = h .5;
-      good = rw (← h .5) (h .2);
-      fits = omega (arith, ltb-false (length l) 12 (h .1), leb-true m (length l - 12) (h .3), h .5);
+complete o l t n =
+    shows-by (λ (a : At). a ≡ Complete t n → Header o l t n) o l record {
+      none = λ b g e. let z : _≡_ {A = ℕ} 0 1 = cc in absurd (omega arith);
+      begins = λ b g e. let z : _≡_ {A = ℕ} 0 1 = cc in absurd (omega arith);
+      short = λ b h e. let z : _≡_ {A = ℕ} 0 1 = cc in absurd (omega arith);
+      bad = λ b h g e. let z : _≡_ {A = ℕ} 0 1 = cc in absurd (omega arith);
+      cut = λ b h g m e. let z : _≡_ {A = ℕ} 0 1 = cc in absurd (omega arith);
+      whole = λ b h g m e.
+          let q : sizeIn o l ≡ n = cc in
+          record { sync = b; type = cc; size = q; good = rw (← q) g; fits = omega arith };
     }
 
 -- four bytes at the front are those of their number

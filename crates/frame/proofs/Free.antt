@@ -14,8 +14,8 @@ use Rattle.num.specs.Choice.{pick}
 use Rattle.num.specs.declared.Order.{Order}
 use Rattle.num.specs.declared.Order.the-variants.{Big, Little}
 use Rattle.frame.specs.Inner.Free.{Free}
-use Rattle.frame.specs.Place.{syncBytes, starts, shows, stops, gap}
-use Rattle.frame.proofs.Laws.{never-true, sync-length, starts-split, starts-done, shows-cut, none-passes, gap-step}
+use Rattle.frame.specs.Place.{syncBytes, starts, begun, shows, stops, gap}
+use Rattle.frame.proofs.Laws.{never-true, sync-length, starts-split, starts-done, begun-starts, shows-cut, none-passes, gap-step}
 
 pub none-of : (a b : Bool) → a || b ≡ false → (a ≡ false) × (b ≡ false)
 none-of true b h = let z : _≡_ {A = ℕ} 0 1 = cc in absurd (omega arith)
@@ -42,25 +42,36 @@ starts-at : (w s : List ℕ) (p k : ℕ) → k < length w → starts w (drop p s
 starts-at w s p k h t =
     sym (getD-drop p s k 0) ∙ ap (λ (l : List ℕ). getD l k 0) (starts-split w (drop p s) t) ∙ List·getD-append w (drop (length w) (drop p s)) 0 k h
 
--- a search does not stop at such a place
-module _ (o : Order) (s : List ℕ) where
-  pub free-passes : (p : ℕ) → (getD s p 0 ≡ getD (syncBytes o) 0 0 → getD s (p + 1) 0 ≡ getD (syncBytes o) 1 0 → ⊥) → stops (shows o (drop p s)) ≡ false
-  free-passes p h =
-      let n = sync-length o in
-      none-passes o (drop p s) (never-true (starts (syncBytes o) (drop p s)) (λ t.
-      h (rw add-zero at (starts-at (syncBytes o) s p 0 (omega arith) t)) (starts-at (syncBytes o) s p 1 (omega arith) t)))
+-- where the stream's end begins it, each byte of the end is the word's
+begun-at : (o : Order) (s : List ℕ) (p k : ℕ) → p + k < length s → begun o (drop p s) ≡ true → getD s (p + k) 0 ≡ getD (syncBytes o) k 0
+begun-at o s p k h t =
+    let l = drop p s in
+    sym (ap (λ (w : List ℕ). getD w k 0) (starts-split l (syncBytes o) (begun-starts o l t))
+    ∙ List·getD-append l (drop (length l) (syncBytes o)) 0 k (omega (arith, length-drop p s))
+    ∙ getD-drop p s k 0)
 
-  free-gap : (from n : ℕ) → Free s (getD (syncBytes o) 0 0) (getD (syncBytes o) 1 0) from (from + n) → from + n ≤ length s →
+-- a search does not stop at such a place, where a byte follows it
+module _ (o : Order) (s : List ℕ) where
+  pub free-passes : (p : ℕ) → p + 1 < length s → (getD s p 0 ≡ getD (syncBytes o) 0 0 → getD s (p + 1) 0 ≡ getD (syncBytes o) 1 0 → ⊥) → stops (shows o (drop p s)) ≡ false
+  free-passes p q h =
+      let n = sync-length o in
+      none-passes o (drop p s)
+      (never-true (starts (syncBytes o) (drop p s)) (λ t.
+      h (rw add-zero at (starts-at (syncBytes o) s p 0 (omega arith) t)) (starts-at (syncBytes o) s p 1 (omega arith) t)))
+      (never-true (begun o (drop p s)) (λ t.
+      h (rw add-zero at (begun-at o s p 0 (omega arith) t)) (begun-at o s p 1 (omega arith) t)))
+
+  free-gap : (from n : ℕ) → Free s (getD (syncBytes o) 0 0) (getD (syncBytes o) 1 0) from (from + n) → from + n < length s →
       from + n + gap o (drop (from + n) s) ≡ from + gap o (drop from s)
   free-gap from zero f h = rw add-zero
   free-gap from (suc n) f h =
       let e : from + suc n ≡ from + n + 1 = omega arith in
       let g = free-gap from n (λ k l. f k (omega arith)) (omega arith) in
-      let t = gap-step o s (from + n) (omega arith) (free-passes (from + n) (f (from + n) (omega arith) (omega arith))) in
+      let t = gap-step o s (from + n) (omega arith) (free-passes (from + n) (omega arith) (f (from + n) (omega arith) (omega arith))) in
       rw e (omega (arith, g, t))
 
 -- so it stops where it does from behind them
-pub free-to : (o : Order) (s w : List ℕ) (from to : ℕ) → w ≡ syncBytes o → from ≤ to → to ≤ length s → Free s (getD w 0 0) (getD w 1 0) from to →
+pub free-to : (o : Order) (s w : List ℕ) (from to : ℕ) → w ≡ syncBytes o → from ≤ to → to < length s → Free s (getD w 0 0) (getD w 1 0) from to →
     to + gap o (drop to s) ≡ from + gap o (drop from s)
 free-to o s w from to e h l f =
     let n : from + (to - from) ≡ to = omega arith in

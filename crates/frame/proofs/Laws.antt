@@ -5,10 +5,10 @@ use mathlib.Core.List.{List, [], _∷_, _++_}
 use mathlib.Core.Bool.{Bool, true, false}
 use native.Mathlib.Numerals.{add-one}
 use native.Mathlib.Omega.{arith}
-use lib.ListN.{length, getD, drop, take, length-drop, take-append-drop, drop-of-length-le}
+use lib.ListN.{length, getD, drop, take, take-append-drop, drop-of-length-le}
 use lib.Seq.{drop-cons, drop-drop, getD-drop, length-take-le, take-append-seam}
 use lib.Dec.{eqb, leb, ltb}
-use borrow.Author.Tests.{eq-eqb, eqb-true, lt-ltb, le-ltb, ltb-true, ltb-false}
+use borrow.Author.Tests.{eq-eqb, eqb-true, lt-ltb, le-ltb, ltb-true, ltb-false, leb-true, leb-false}
 use mathlib.Core.Logic.{_⊎_, inl, inr}
 use denote.Enum.Declared.{tagOf}
 use Rattle.num.specs.Answer.{gives, refuses}
@@ -23,7 +23,7 @@ use Rattle.frame.specs.declared.At.the-variants.{NoSync, Bad, Unfinished
 use Rattle.frame.specs.declared.Found.{Found}
 use Rattle.frame.specs.declared.Found.the-variants.{Place, Nothing}
 use Rattle.frame.proofs.At.{the-type}
-use Rattle.frame.specs.Place.{syncBytes, starts, word, typeIn, sizeIn, goodSize, badSize, shows, stops, gap, searchFrom, orderOf}
+use Rattle.frame.specs.Place.{syncBytes, starts, begun, word, typeIn, sizeIn, goodSize, badSize, shows, stops, gap, searchFrom, orderOf}
 
 -- ---- the front of a list
 
@@ -51,13 +51,20 @@ unfolding starts
 starts-self [] l = refl
 starts-self (x ∷ w) l = rw (eq-eqb x x refl) (starts-self w l)
 
--- one byte more of a comparison
-pub starts-step : (w s : List ℕ) (p k : ℕ) → k < length w → p + k < length s →
-    starts (drop k w) (drop (p + k) s) ≡ both (eqb (getD s (p + k) 0) (getD w k 0)) (starts (drop (k + 1) w) (drop (p + (k + 1)) s))
+-- a list that is as long starts with w where w starts with it
+starts-back : (w l : List ℕ) → length w ≤ length l → starts l w ≡ true → starts w l ≡ true
 unfolding starts
-starts-step w s p k hw hs =
-    let e : p + (k + 1) ≡ suc (p + k) = omega arith in
-    rw (e, drop-cons w k 0 hw, drop-cons s (p + k) 0 hs, add-one k)
+starts-back [] l h t = refl
+starts-back (x ∷ w) [] h t = absurd (omega arith)
+starts-back (x ∷ w) (y ∷ l) h t =
+    let b = both-true (eqb x y) (starts l w) t in
+    rw (eq-eqb y x (sym (eqb-true x y (b .0)))) (starts-back w l (omega arith) (b .1))
+
+-- one byte more of a comparison: of a word with a stream, or of a stream's end with a word
+pub starts-step : (w s : List ℕ) (j k : ℕ) → j < length w → k < length s →
+    starts (drop j w) (drop k s) ≡ both (eqb (getD s k 0) (getD w j 0)) (starts (drop (j + 1) w) (drop (k + 1) s))
+unfolding starts
+starts-step w s j k hw hs = rw (drop-cons w j 0 hw, drop-cons s k 0 hs, add-one j, add-one k)
 
 -- and a comparison that is through
 pub starts-done : (w l : List ℕ) (k : ℕ) → length w ≤ k → starts (drop k w) l ≡ true
@@ -106,13 +113,29 @@ first-word o s p h = at-some 4 o s p h
 abbrev pub headed : ℕ → ℕ → ℕ → At
 headed t n left = pick (goodSize n) (pick (leb n left) (Complete t n) Unfinished) (Bad (badSize n))
 
-module _ (o : Order) (l : List ℕ) where
-  pub shows-none : starts (syncBytes o) l ≡ false → shows o l ≡ NoSync
-  unfolding shows
-  shows-none b = rw b
+-- the bytes that begin the sync word are the word's, and four bytes that are not the word do not begin it
+pub begun-is : (o : Order) (l : List ℕ) → 0 < length l → begun o l ≡ starts l (syncBytes o)
+begun-is o [] h = absurd (omega arith)
+begun-is o (x ∷ l) h = refl
 
-  pub shows-short : length l < 4 → shows o l ≡ NoSync
-  shows-short h = shows-none (starts-short (syncBytes o) l (omega (arith, sync-length o)))
+pub begun-starts : (o : Order) (l : List ℕ) → begun o l ≡ true → starts l (syncBytes o) ≡ true
+begun-starts o [] h = let z : _≡_ {A = ℕ} 0 1 = cc in absurd (omega arith)
+begun-starts o (x ∷ l) h = h
+
+pub begun-not : (o : Order) (l : List ℕ) → 4 ≤ length l → starts (syncBytes o) l ≡ false → begun o l ≡ false
+begun-not o l h b =
+    never-true (begun o l) (λ t.
+    let q = starts-back (syncBytes o) l (omega (arith, sync-length o)) (begun-starts o l t) in
+    let z : _≡_ {A = ℕ} 0 1 = cc in
+    omega arith)
+
+module _ (o : Order) (l : List ℕ) where
+  pub shows-begun : starts (syncBytes o) l ≡ false → shows o l ≡ pick (begun o l) Unfinished NoSync
+  unfolding shows
+  shows-begun b = rw b
+
+  pub shows-none : 4 ≤ length l → starts (syncBytes o) l ≡ false → shows o l ≡ NoSync
+  shows-none h b = shows-begun b ∙ rw (begun-not o l h b)
 
   pub shows-cut : starts (syncBytes o) l ≡ true → length l < 12 → shows o l ≡ Unfinished
   unfolding shows
@@ -121,6 +144,32 @@ module _ (o : Order) (l : List ℕ) where
   pub shows-headed : (t n : ℕ) → starts (syncBytes o) l ≡ true → 12 ≤ length l → t ≡ typeIn o l → n ≡ sizeIn o l → shows o l ≡ headed t n (length l - 12)
   unfolding shows
   shows-headed t n b h e q = rw (b, le-ltb (length l) 12 h, ← e, ← q)
+
+pub shows-end : (o : Order) (s : List ℕ) (p : ℕ) → length s ≤ p → shows o (drop p s) ≡ NoSync
+shows-end o s p h = rw (drop-of-length-le s {i = p} h) (shows-begun o [] (starts-short (syncBytes o) [] (omega (arith, sync-length o))))
+
+-- Each way through the tests: what holds of each answer, where its tests came out so, holds of what is shown.
+pub record Ways (P : At → Type 0) (o : Order) (l : List ℕ) : Type 0 where
+  pub none : starts (syncBytes o) l ≡ false → begun o l ≡ false → P NoSync
+  pub begins : starts (syncBytes o) l ≡ false → begun o l ≡ true → P Unfinished
+  pub short : starts (syncBytes o) l ≡ true → length l < 12 → P Unfinished
+  pub bad : starts (syncBytes o) l ≡ true → 12 ≤ length l → goodSize (sizeIn o l) ≡ false → P (Bad (badSize (sizeIn o l)))
+  pub cut : starts (syncBytes o) l ≡ true → 12 ≤ length l → goodSize (sizeIn o l) ≡ true → length l - 12 < sizeIn o l → P Unfinished
+  pub whole : starts (syncBytes o) l ≡ true → 12 ≤ length l → goodSize (sizeIn o l) ≡ true → sizeIn o l ≤ length l - 12 → P (Complete (typeIn o l) (sizeIn o l))
+
+module _ (P : At → Type 0) (o : Order) (l : List ℕ) (w : Ways P o l) where
+  ways-by : (a b c d r : Bool) → starts (syncBytes o) l ≡ a → ltb (length l) 12 ≡ b → goodSize (sizeIn o l) ≡ c → leb (sizeIn o l) (length l - 12) ≡ d → begun o l ≡ r →
+      P (pick a (pick b Unfinished (pick c (pick d (Complete (typeIn o l) (sizeIn o l)) Unfinished) (Bad (badSize (sizeIn o l))))) (pick r Unfinished NoSync))
+  ways-by false b c d false e f g h i = w .none e i
+  ways-by false b c d true e f g h i = w .begins e i
+  ways-by true true c d r e f g h i = w .short e (ltb-true (length l) 12 f)
+  ways-by true false false d r e f g h i = w .bad e (ltb-false (length l) 12 f) g
+  ways-by true false true false r e f g h i = w .cut e (ltb-false (length l) 12 f) g (leb-false (sizeIn o l) (length l - 12) h)
+  ways-by true false true true r e f g h i = w .whole e (ltb-false (length l) 12 f) g (leb-true (sizeIn o l) (length l - 12) h)
+
+  pub shows-by : P (shows o l)
+  unfolding shows
+  shows-by = ways-by _ _ _ _ _ refl refl refl refl refl
 
 -- ---- the gap
 
@@ -141,23 +190,20 @@ pub gap-pass : (o : Order) (x : ℕ) (l : List ℕ) → stops (shows o (x ∷ l)
 unfolding gap
 gap-pass o x l h = rw h
 
-pub none-passes : (o : Order) (l : List ℕ) → starts (syncBytes o) l ≡ false → stops (shows o l) ≡ false
-none-passes o l b = rw (shows-none o l b)
+pub none-passes : (o : Order) (l : List ℕ) → starts (syncBytes o) l ≡ false → begun o l ≡ false → stops (shows o l) ≡ false
+none-passes o l b g = rw (shows-begun o l b, g)
 
--- too few bytes for a sync word are passed over whole
-pub gap-short : (o : Order) (l : List ℕ) → length l < 4 → gap o l ≡ length l
+pub gap-end : (o : Order) (s : List ℕ) (p : ℕ) → length s ≤ p → gap o (drop p s) ≡ 0
 unfolding gap
-gap-short o [] h = refl
-gap-short o (x ∷ l) h =
-    let b = starts-short (syncBytes o) (x ∷ l) (omega (arith, sync-length o)) in
-    gap-pass o x l (none-passes o (x ∷ l) b) ∙ omega (arith, gap-short o l (omega arith))
+gap-end o s p h = rw (drop-of-length-le s {i = p} h)
 
 -- ---- the search: p is where it stands, having begun at from
 
-pub search-none : (o : Order) (s : List ℕ) (from p : ℕ) → length s < p + 4 → p + gap o (drop p s) ≡ from + gap o (drop from s) → searchFrom o s from ≡ Nothing
-search-none o s from p h e =
-    let n : length (drop p s) ≡ length s - p = length-drop p s in
-    rw (le-ltb (from + gap o (drop from s)) (length s) (omega (arith, gap-short o (drop p s) (omega arith))))
+pub search-same : (o : Order) (s : List ℕ) (from p : ℕ) → p + gap o (drop p s) ≡ from + gap o (drop from s) → searchFrom o s p ≡ searchFrom o s from
+search-same o s from p e = rw e
+
+pub search-none : (o : Order) (s : List ℕ) (from p : ℕ) → length s ≤ p → p + gap o (drop p s) ≡ from + gap o (drop from s) → searchFrom o s from ≡ Nothing
+search-none o s from p h e = rw (le-ltb (from + gap o (drop from s)) (length s) (omega (arith, gap-end o s p h)))
 
 pub search-here : (o : Order) (s : List ℕ) (from p : ℕ) → p < length s → stops (shows o (drop p s)) ≡ true → p + gap o (drop p s) ≡ from + gap o (drop from s) → searchFrom o s from ≡ Place p
 search-here o s from p h q e =

@@ -160,11 +160,11 @@ search-nothing o s from q e l u =
 abbrev pub Clean : Order → List ℕ → List ℕ → Type 0
 Clean o xs ys = (k : ℕ) → k < length xs → starts (syncBytes o) (drop k (xs ++ ys)) ≡ false
 
-gap-clean : (o : Order) (xs ys : List ℕ) → Clean o xs ys → gap o (xs ++ ys) ≡ length xs + gap o ys
-gap-clean o [] ys h = omega arith
-gap-clean o (x ∷ xs) ys h =
-    let n : stops (shows o (x ∷ (xs ++ ys))) ≡ false = rw (shows-none o (x ∷ (xs ++ ys)) (h 0 (omega arith))) in
-    gap-pass o x (xs ++ ys) n ∙ omega (arith, gap-clean o xs ys (λ k q. h (suc k) (omega arith)))
+gap-clean : (o : Order) (xs ys : List ℕ) → 4 ≤ length ys → Clean o xs ys → gap o (xs ++ ys) ≡ length xs + gap o ys
+gap-clean o [] ys f h = omega arith
+gap-clean o (x ∷ xs) ys f h =
+    let n : stops (shows o (x ∷ (xs ++ ys))) ≡ false = rw (shows-none o (x ∷ (xs ++ ys)) (omega (arith, length-append xs ys)) (h 0 (omega arith))) in
+    gap-pass o x (xs ++ ys) n ∙ omega (arith, gap-clean o xs ys f (λ k q. h (suc k) (omega arith)))
 
 -- From any place of a clean beginning, the search stops at the complete chunk that the ending starts with.
 pub clean-beginning : (o : Order) (xs ys : List ℕ) (t n k : ℕ) → Clean o xs ys → shows o ys ≡ Complete t n → k ≤ length xs → searchFrom o (xs ++ ys) k ≡ Place (length xs)
@@ -175,7 +175,7 @@ clean-beginning o xs ys t n k h e q =
     let m : length (xs ++ ys) ≡ length xs + length ys = length-append xs ys in
     let w : drop k (xs ++ ys) ≡ drop k xs ++ ys = drop-append-le k xs ys q in
     let c : Clean o (drop k xs) ys = λ j u. rw (← w, drop-drop j k (xs ++ ys)) (h (k + j) (omega (arith, length-drop k xs))) in
-    let g = gap-clean o (drop k xs) ys c in
+    let g = gap-clean o (drop k xs) ys (omega arith) c in
     search-here o (xs ++ ys) k (length xs) (omega arith) (rw d st) (rw (d, w) (omega (arith, g, gap-stop o ys st, length-drop k xs)))
 
 -- ---- the order is that of the lowest sync word of either

@@ -59,8 +59,13 @@ goodSize n = both (leb n sizeLimit) (eqb (n % 4) 0)
 abbrev pub badSize : ℕ → BadSize
 badSize n = pick (leb n sizeLimit) Uneven Large
 
--- No sync; or unfinished, fewer than 12 bytes being left; or bad, the size not good; or unfinished, the body not whole;
--- or complete.
+-- the bytes, one at least, are the first ones of the sync word
+abbrev pub begun : Order → List ℕ → Bool
+begun o [] = false
+begun o (x ∷ l) = starts (x ∷ l) (syncBytes o)
+
+-- Where the sync word stands: unfinished, fewer than 12 bytes being left; or bad, the size not good; or unfinished, the
+-- body not whole; or complete. Where it does not: unfinished, the bytes that are left having begun it; or no sync.
 unfoldable pub shows : Order → List ℕ → At
 shows o l =
     pick (starts (syncBytes o) l)
@@ -68,7 +73,7 @@ shows o l =
     (pick (goodSize (sizeIn o l))
     (pick (leb (sizeIn o l) (length l - headerSize)) (Complete (typeIn o l) (sizeIn o l)) Unfinished)
     (Bad (badSize (sizeIn o l)))))
-    NoSync
+    (pick (begun o l) Unfinished NoSync)
 
 -- a search stops at what is complete or unfinished
 abbrev pub stops : At → Bool

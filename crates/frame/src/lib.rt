@@ -6,6 +6,8 @@ ghost use lib.Dec.{eqb};
 ghost use lib.ListN.{length, drop};
 ghost use Rattle.num.specs.Answer.{refusal};
 ghost use Rattle.num.specs.Choice.{pick};
+ghost use Rattle.num.specs.Number.{bytesOf};
+ghost use Rattle.num.specs.declared.Order.the-variants.{Big};
 ghost use Rattle.frame.specs.Ahead.{aheadOf};
 ghost use Rattle.frame.specs.Inner.Free.{Free};
 ghost use Rattle.frame.specs.Place.{syncBytes, starts, goodSize, badSize, shows, searchFrom, orderOf, orderSaid};
@@ -40,7 +42,8 @@ pub enum At {
     NoSync,
     // A whole header, with a size that is not good.
     Bad(BadSize),
-    // A sync word, and too few bytes behind it for the header or for the body.
+    // A sync word, and too few bytes behind it for the header or for the body; or the last bytes of the stream, one to
+    // three, where the sync word begins with them.
     Unfinished,
     // A whole chunk.
     Complete { code: u32, size: usize },
@@ -60,7 +63,7 @@ pub enum Ahead {
     End,
     // Bytes that belong to no chunk, and what stands where they begin.
     Stretch(Stray),
-    // A chunk that breaks off at the end of the stream.
+    // A chunk that breaks off at the end of the stream, in its sync word or behind it.
     Cut,
     // A whole chunk.
     Chunk { code: u32, size: usize },
@@ -129,17 +132,45 @@ fn headed(order: Order, s: &[u8], place: usize) -> At
     At::Complete { code, size }
 }
 
+// What the stream shows at a place from which on it has too few bytes for a header: an unfinished end where these
+// bytes, the first four of them or fewer, are those of the sync word.
+fn near_end(order: Order, s: &[u8], place: usize) -> At
+    requires { ⌜ (place < length (now s)) × (length (now s) < place + 12) ⌝ }
+    ensures { λ r. ⌜ r ≡ shows order (drop place (now (s .entry))) ⌝ }
+{
+    let sync = num::u32_bytes(order, SYNC);
+    let left = s.len() - place;
+    let mut k = 0;
+    while (k < left) & (k < 4) {
+        if s[place + k] != sync[k] {
+            return At::NoSync;
+        }
+        k += 1;
+    }
+    At::Unfinished
+}
+
+// The sync word of an order, read in the big one.
+fn sync_in_big(order: Order) -> u32
+    ensures { λ r. ⌜ bytesOf Big 4 r ≡ syncBytes order ⌝ }
+{
+    match order {
+        Order::Big => SYNC,
+        Order::Little => SYNC_TURNED,
+    }
+}
+
 // What stands at a place of the stream. At the end and past it the answer is NoSync.
 pub fn look(order: Order, s: &[u8], place: usize) -> At
     ensures { λ r. ⌜ r ≡ shows order (drop place (now (s .entry))) ⌝ }
 {
-    if s.len() < place {
+    if s.len() <= place {
         return At::NoSync;
     }
-    if s.len() - place < 4 {
-        return At::NoSync;
+    if s.len() - place < HEADER {
+        return near_end(order, s, place);
     }
-    if num::u32_at(order, s, place) != SYNC {
+    if num::u32_at(Order::Big, s, place) != sync_in_big(order) {
         return At::NoSync;
     }
     headed(order, s, place)
@@ -257,23 +288,40 @@ fn beyond(p: usize, k: usize) -> usize
     if k == 4 { p + 4 } else { p + 1 }
 }
 
+// The search from one of the last three places on, or from the end or past it: there only the beginning of a sync word
+// can be found.
+fn last_places(order: Order, s: &[u8], from: usize) -> Found
+    requires { ⌜ length (now s) < from + 4 ⌝ }
+    ensures { λ r. ⌜ r ≡ searchFrom order (now (s .entry)) from ⌝ }
+{
+    let mut p = from;
+    while p < s.len() {
+        match near_end(order, s, p) {
+            At::Complete { code: _, size: _ } | At::Unfinished => return Found::Place(p),
+            At::NoSync | At::Bad(_) => {}
+        }
+        p += 1;
+    }
+    Found::Nothing
+}
+
 // Looks for a chunk: the first place from `from` on where one is complete or unfinished. Nothing where there is none,
 // and where `from` lies past the end.
 pub fn search(order: Order, s: &[u8], from: usize) -> Found
     ensures { λ r. ⌜ r ≡ searchFrom order (now (s .entry)) from ⌝ }
 {
     if s.len() < 4 {
-        return Found::Nothing;
+        return last_places(order, s, from);
     }
     let last = s.len() - 4;
     if last < from {
-        return Found::Nothing;
+        return last_places(order, s, from);
     }
     let word = num::u32_bytes(order, SYNC);
     let mut p = blocks(s, from, word[0], word[1]);
     'places: loop {
         if last < p {
-            break Found::Nothing;
+            break last_places(order, s, p);
         }
         let mut k = 0;
         'bytes: loop {

@@ -12,7 +12,7 @@ use borrow.Author.Tests.{ltb-false}
 use Rattle.num.specs.declared.Order.{Order}
 use Rattle.frame.specs.Place.{stops, gap, searchFrom}
 use Rattle.frame.specs.declared.Found.the-variants.{Nothing}
-use Rattle.frame.proofs.Laws.{gap-step, gap-stop, shows-short}
+use Rattle.frame.proofs.Laws.{gap-step, gap-stop, shows-end}
 use Rattle.frame.proofs.Frames.{gap-le}
 use Rattle.frame.proofs.Theorems.{search-stopped, search-nothing}
 use Rattle.reading.specs.Due.{showsAt}
@@ -23,7 +23,7 @@ module _ (o : Order) (s : List ℕ) where
   stop-within q e =
       lt-of-not-le
       (λ h.
-      let n : stops (showsAt o s q) ≡ false = rw (shows-short o (drop q s) (omega (arith, length-drop q s))) in
+      let n : stops (showsAt o s q) ≡ false = rw (shows-end o s q h) in
       let w : true ≡ false = sym e ∙ n in
       let z : _≡_ {A = ℕ} 0 1 = cc in absurd (omega arith))
 

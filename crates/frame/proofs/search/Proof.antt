@@ -1,7 +1,7 @@
 -- The place reached with the gap before the first stop is the same at each turn: a turn passes a place that is no stop, and
 -- what follows it up to the next place with the word's first two bytes in front.
 use Prim.Native.Nat.{_+_, _-_, _<_, _≤_}
-use mathlib.Core.Path.{_≡_, refl, sym, ap, _∙_}
+use mathlib.Core.Path.{_≡_, sym, ap, _∙_}
 use mathlib.Core.Bool.{true, false}
 use mathlib.Core.Logic.{⊎-elim}
 use native.Mathlib.Nat.{add-zero}
@@ -9,11 +9,11 @@ use native.Mathlib.Omega.{arith}
 use borrow.Author.Needs.{needs}
 use borrow.Author.Tests.{eq-eqb, ne-eqb}
 use lib.Dec.{eqb}
-use lib.ListN.{length, drop, getD}
+use lib.ListN.{length, drop, getD, length-drop}
 use Rattle.num.specs.Choice.{both}
 use Rattle.frame.specs.Inner.Free.{Free}
 use Rattle.frame.specs.Place.{starts, shows, stops, gap}
-use Rattle.frame.proofs.Laws.{sync-length, starts-step, starts-done, shows-none, gap-step, search-none, search-here, stop-told, pass-told}
+use Rattle.frame.proofs.Laws.{sync-length, starts-step, starts-done, shows-none, gap-step, search-same, search-here, stop-told, pass-told}
 use Rattle.frame.proofs.Free.{free-join, free-to, free-beyond}
 use Rattle.frame.proofs.search.Statement.{statement}
 use Rattle.frame.proofs.search.Tie as tie
@@ -30,18 +30,20 @@ Inv-places order s from last word p₀ p = p + gap order (drop p s) ≡ from + g
 abbrev μ-places : tie.MeasureT-places
 μ-places order s from last word p₀ p = length s - p
 
+last-places-requires : tie.Need-last-places-requires Inv-bytes μ-bytes Inv-places μ-places
+last-places-requires c κs = search needs
+
 returns : tie.Need-returns Inv-bytes μ-bytes Inv-places μ-places
-returns c =
-    let a = c .before .before .args in
-    sym (search-none (a .order) (a .s .now) (a .from) (a .from) (omega arith) refl)
+returns c = c .last-places .ensures
 
 sub-last : tie.Need-sub-last Inv-bytes μ-bytes Inv-places μ-places
 sub-last c = search needs
 
+last-places-requires-2 : tie.Need-last-places-requires-2 Inv-bytes μ-bytes Inv-places μ-places
+last-places-requires-2 c κs = search needs
+
 returns-2 : tie.Need-returns-2 Inv-bytes μ-bytes Inv-places μ-places
-returns-2 c =
-    let a = c .before .before .before .args in
-    sym (search-none (a .order) (a .s .now) (a .from) (a .from) (omega arith) refl)
+returns-2 c = c .last-places2 .ensures
 
 u32-bytes-requires : tie.Need-u32-bytes-requires Inv-bytes μ-bytes Inv-places μ-places
 u32-bytes-requires c κs = search needs
@@ -61,6 +63,9 @@ places-holds c =
     let w = c .before .u32-bytes in
     let r = c .blocks2 in
     free-to (a .order) (a .s .now) (w .result) (a .from) (r .result) (w .ensures) (r .ensures .0) (omega arith) (r .ensures .2)
+
+last-places-requires-3 : tie.Need-last-places-requires-3 Inv-bytes μ-bytes Inv-places μ-places
+last-places-requires-3 c κs = search needs
 
 bytes-holds : tie.Need-bytes-holds Inv-bytes μ-bytes Inv-places μ-places
 bytes-holds c = (omega arith, rw add-zero)
@@ -102,7 +107,10 @@ compared c =
     let w = h .before .before .before .before .u32-bytes in
     let a = h .before .before .before .before .before .before .before .before .args in
     let n : length (w .result) ≡ 4 = ap length (w .ensures) ∙ sync-length (a .order) in
-    h .bytes .inv .1 ∙ starts-step (w .result) (a .s .now) (h .before .before .places .p) (h .bytes .k) (omega arith) (omega arith)
+    let p = h .before .before .places .p in
+    let k = h .bytes .k in
+    let e : p + (k + 1) ≡ p + k + 1 = omega arith in
+    h .bytes .inv .1 ∙ rw e (starts-step (w .result) (a .s .now) k (p + k) (omega arith) (omega arith))
 
 bytes-again : tie.Need-bytes-again Inv-bytes μ-bytes Inv-places μ-places
 bytes-again c = (omega arith, compared (c .before .before) ∙ rw (eq-eqb _ _ (c .if5 .left)))
@@ -117,11 +125,12 @@ passed c =
     let a = h .before .before .before .before .before .before .before .before .args in
     let w = h .before .before .before .before .u32-bytes in
     let l = drop (h .before .before .places .p) (a .s .now) in
+    let n : 4 ≤ length l = simp length-drop (omega arith) in
     ⊎-elim
     (λ m. rw (m .1 .ensures) at (pass-told (m .1 .result) (m .2 .keys2)))
     (λ m.
     let b : starts (w .result) l ≡ false = compared (record { before = h; if4 = m .0 }) ∙ rw (ne-eqb _ _ (m .2 .taken)) in
-    rw (shows-none (a .order) l (rw (w .ensures) at b)))
+    rw (shows-none (a .order) l n (rw (w .ensures) at b)))
     (c .if4 .came)
 
 -- the next place lies ahead, with no stop before it
@@ -168,9 +177,9 @@ places-again c =
 
 returns-3 : tie.Need-returns-3 Inv-bytes μ-bytes Inv-places μ-places
 returns-3 c =
-    let a = c .before .before .before .before .before .before .before .args in
-    let p = c .before .places in
-    sym (search-none (a .order) (a .s .now) (a .from) (p .p) (omega arith) (p .inv))
+    let a = c .before .before .before .before .before .before .before .before .args in
+    let p = c .before .before .places in
+    c .last-places3 .ensures ∙ search-same (a .order) (a .s .now) (a .from) (p .p) (p .inv)
 
 returns-4 : tie.Need-returns-4 Inv-bytes μ-bytes Inv-places μ-places
 returns-4 c =
@@ -189,14 +198,17 @@ search-spec =
     μ-bytes
     Inv-places
     μ-places
+    last-places-requires
     returns
     sub-last
+    last-places-requires-2
     returns-2
     u32-bytes-requires
     array-read-blocks
     array-read-blocks-2
     blocks-requires
     places-holds
+    last-places-requires-3
     bytes-holds
     headed-requires
     add-if5
