@@ -13,7 +13,7 @@ use Rattle.num.specs.declared.Order.{Order}
 use Rattle.frame.specs.declared.BadSize.{BadSize}
 use Rattle.frame.specs.declared.BadSize.the-variants.{Large, Uneven}
 use Rattle.frame.specs.declared.At.{At}
-use Rattle.frame.specs.declared.At.the-variants.{NoSync, Bad, Unfinished, Complete}
+use Rattle.frame.specs.declared.At.the-variants.{NoSync, Bad}
 use Rattle.frame.specs.Place.{headerSize, sizeLimit, syncBytes, starts, begun, typeIn, sizeIn, goodSize, badSize, shows}
 use Rattle.frame.proofs.Laws.{shows-begun, shows-headed, shows-by}
 

@@ -1,6 +1,6 @@
 -- More bytes behind a stream: what a place shows stays, unless it is an unfinished end, so no stretch that a search passes over
 -- gets shorter.
-use Prim.Native.Nat.{ℕ, zero, suc, _+_, _-_, _≤_, _<_}
+use Prim.Native.Nat.{ℕ, suc, _+_, _-_, _≤_, _<_}
 use mathlib.Core.Path.{_≡_, refl, ap, sym, _∙_}
 use mathlib.Core.List.{List, [], _∷_, _++_}
 use mathlib.Core.Bool.{Bool, true, false}
@@ -15,14 +15,14 @@ use Rattle.num.specs.declared.Order.{Order}
 use Rattle.num.specs.declared.Order.the-variants.{Big, Little}
 use Rattle.num.proofs.Tests.{both-true}
 use Rattle.frame.specs.declared.At.{At}
-use Rattle.frame.specs.declared.At.the-variants.{NoSync, Bad, Unfinished, Complete}
+use Rattle.frame.specs.declared.At.the-variants.{Unfinished, Complete}
 use Rattle.frame.specs.declared.Ahead.the-variants.{Stretch, Chunk}
 use Rattle.frame.specs.declared.Stray.{Stray}
-use Rattle.frame.specs.Place.{syncBytes, starts, begun, word, typeIn, sizeIn, shows, stops, gap, orderOf}
+use Rattle.frame.specs.Place.{syncBytes, starts, word, typeIn, sizeIn, shows, stops, gap, orderOf}
 use Rattle.frame.specs.Ahead.{aheadBy, aheadOf}
 use Rattle.frame.proofs.Laws.{sync-length, headed, begun-is, shows-begun, shows-headed, shows-by, gap-stop, gap-pass, order-short}
 use Rattle.frame.proofs.Looks.{is-chunk, is-stretch, ahead-at}
-use Rattle.frame.proofs.Frames.{complete, gap-le}
+use Rattle.frame.proofs.Frames.{complete}
 
 -- ---- what a place shows
 

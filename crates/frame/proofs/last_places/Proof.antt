@@ -1,10 +1,10 @@
 -- The place reached with the gap before the first stop is the same at each turn.
 use Prim.Native.Nat.{_+_, _-_, _≤_}
-use mathlib.Core.Path.{_≡_, refl, sym, _∙_}
+use mathlib.Core.Path.{_≡_, refl, sym}
 use mathlib.Core.Bool.{true, false}
 use native.Mathlib.Omega.{arith}
 use borrow.Author.Needs.{needs}
-use lib.ListN.{length, drop, length-drop}
+use lib.ListN.{length, drop}
 use Rattle.frame.specs.Place.{shows, stops, gap}
 use Rattle.frame.proofs.Laws.{gap-step, search-none, search-here, stop-told, pass-told}
 use Rattle.frame.proofs.last_places.Statement.{statement}
