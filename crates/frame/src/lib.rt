@@ -7,7 +7,7 @@ ghost use lib.ListN.{length, drop};
 ghost use Rattle.num.specs.Answer.{refusal};
 ghost use Rattle.num.specs.Choice.{pick};
 ghost use Rattle.num.specs.Number.{bytesOf};
-ghost use Rattle.num.specs.declared.Order.the-variants.{Big};
+ghost use Rattle.num.specs.declared.Order.the-variants.{Little};
 ghost use Rattle.frame.specs.Ahead.{aheadOf};
 ghost use Rattle.frame.specs.Inner.Free.{Free};
 ghost use Rattle.frame.specs.Place.{syncBytes, starts, goodSize, badSize, shows, searchFrom, orderOf, orderSaid};
@@ -16,7 +16,7 @@ use num::Order;
 // The sync word, with which each chunk begins.
 pub const SYNC: u32 = 0xA1B2C3D4;
 
-// The sync word of the little order, read in the big one.
+// The sync word of one order, read in the other.
 const SYNC_TURNED: u32 = 0xD4C3B2A1;
 
 // The bytes of a header: sync word, type and size, four each.
@@ -150,13 +150,13 @@ fn near_end(order: Order, s: &[u8], place: usize) -> At
     At::Unfinished
 }
 
-// The sync word of an order, read in the big one.
-fn sync_in_big(order: Order) -> u32
-    ensures { λ r. ⌜ bytesOf Big 4 r ≡ syncBytes order ⌝ }
+// The sync word of an order, read in the little one, which processors read without a swap.
+fn sync_in_little(order: Order) -> u32
+    ensures { λ r. ⌜ bytesOf Little 4 r ≡ syncBytes order ⌝ }
 {
     match order {
-        Order::Big => SYNC,
-        Order::Little => SYNC_TURNED,
+        Order::Big => SYNC_TURNED,
+        Order::Little => SYNC,
     }
 }
 
@@ -170,7 +170,7 @@ pub fn look(order: Order, s: &[u8], place: usize) -> At
     if s.len() - place < HEADER {
         return near_end(order, s, place);
     }
-    if num::u32_at(Order::Big, s, place) != sync_in_big(order) {
+    if num::u32_at(Order::Little, s, place) != sync_in_little(order) {
         return At::NoSync;
     }
     headed(order, s, place)

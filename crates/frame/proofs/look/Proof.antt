@@ -1,9 +1,9 @@
--- The sync word is compared as a number in big order, which is to compare its four bytes.
+-- The sync word is compared as a number in little order, which is to compare its four bytes.
 use mathlib.Core.Path.{sym, _∙_}
 use native.Mathlib.Omega.{arith}
 use lib.ListN.{drop, length-drop}
 use borrow.Author.Needs.{needs}
-use Rattle.num.specs.declared.Order.the-variants.{Big}
+use Rattle.num.specs.declared.Order.the-variants.{Little}
 use Rattle.frame.proofs.Laws.{drop-bytes, front-not, front-is, first-word, shows-end, shows-none}
 use Rattle.frame.proofs.look.Statement.{statement}
 use Rattle.frame.proofs.look.Tie as tie
@@ -25,26 +25,26 @@ returns-2 c = search needs
 u32-at-requires : tie.Need-u32-at-requires
 u32-at-requires c κs = search needs
 
-sync-in-big-requires : tie.Need-sync-in-big-requires
-sync-in-big-requires c κs = search needs
+sync-in-little-requires : tie.Need-sync-in-little-requires
+sync-in-little-requires c κs = search needs
 
 returns-3 : tie.Need-returns-3
 returns-3 c =
     let a = c .before .before .before .before .before .before .args in
     let l = drop (a .place) (a .s .now) in
-    let w = c .before .sync-in-big in
-    let e = c .before .before .u32-at .ensures ∙ first-word Big (a .s .now) (a .place) (omega arith) in
-    let b = rw (w .ensures) at (front-not Big (w .result) l (search needs) (λ h. c .if3 .taken (e ∙ h))) in
+    let w = c .before .sync-in-little in
+    let e = c .before .before .u32-at .ensures ∙ first-word Little (a .s .now) (a .place) (omega arith) in
+    let b = rw (w .ensures) at (front-not Little (w .result) l (search needs) (λ h. c .if3 .taken (e ∙ h))) in
     sym (shows-none (a .order) l (simp length-drop (omega arith)) b)
 
 headed-requires : tie.Need-headed-requires
 headed-requires c κs =
     let a = c .before .before .before .before .before .before .args in
     let l = drop (a .place) (a .s .now) in
-    let w = c .before .sync-in-big in
-    let e = c .before .before .u32-at .ensures ∙ first-word Big (a .s .now) (a .place) (omega arith) in
+    let w = c .before .sync-in-little in
+    let e = c .before .before .u32-at .ensures ∙ first-word Little (a .s .now) (a .place) (omega arith) in
     let g = drop-bytes (a .place) (a .s .now) (c .before .before .before .before .before .shared-slice-known .given) in
-    (omega arith, rw (w .ensures) at (front-is Big (w .result) l g (simp length-drop (omega arith)) (sym e ∙ c .if3 .left)))
+    (omega arith, rw (w .ensures) at (front-is Little (w .result) l g (simp length-drop (omega arith)) (sym e ∙ c .if3 .left)))
 
 returns-4 : tie.Need-returns-4
 returns-4 c = search needs
@@ -52,4 +52,4 @@ returns-4 c = search needs
 pub look-spec : {M : Type 1} → statement M
 look-spec =
     tie.close
-    (tie.spec returns sub-if2 near-end-requires returns-2 u32-at-requires sync-in-big-requires returns-3 headed-requires returns-4)
+    (tie.spec returns sub-if2 near-end-requires returns-2 u32-at-requires sync-in-little-requires returns-3 headed-requires returns-4)

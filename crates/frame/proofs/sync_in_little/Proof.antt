@@ -1,6 +1,6 @@
 use borrow.Author.Needs.{needs}
-use Rattle.frame.proofs.sync_in_big.Statement.{statement}
-use Rattle.frame.proofs.sync_in_big.Tie as tie
+use Rattle.frame.proofs.sync_in_little.Statement.{statement}
+use Rattle.frame.proofs.sync_in_little.Tie as tie
 
 enum-told : tie.Need-enum-told
 enum-told c = search needs
@@ -14,5 +14,5 @@ returns c = rw (c .enum-told .given .1)
 returns-2 : tie.Need-returns-2
 returns-2 c = rw (c .enum-told2 .given .1)
 
-pub sync-in-big-spec : {M : Type 1} → statement M
-sync-in-big-spec = tie.close (tie.spec enum-told enum-told-2 returns returns-2)
+pub sync-in-little-spec : {M : Type 1} → statement M
+sync-in-little-spec = tie.close (tie.spec enum-told enum-told-2 returns returns-2)
