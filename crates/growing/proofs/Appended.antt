@@ -24,6 +24,8 @@ use Rattle.reader.specs.declared.Cursor.{Cursor}
 use Rattle.reader.proofs.Laws.{step-ahead}
 use Rattle.reader.proofs.Theorems.{after-suc, told, ahead, one}
 use Rattle.reading.specs.Ends.{Sound}
+use Rattle.reading.specs.FromNew.{FromNew}
+use Rattle.reading.proofs.FromNew.{from-new-fit}
 use Rattle.reading.proofs.Next.{Next, Done, stands, new-sound}
 use Rattle.reading.proofs.Stretch.{stretch}
 use Rattle.growing.specs.Settled.{settled}
@@ -167,6 +169,10 @@ module _ (o : Order) (s t : List ℕ) where
   appended-cursor c h zero l = refl
   appended-cursor c h (suc k) l =
       after-suc k o (s ++ t) c ∙ ap (λ (x : Step). x .cursor) (appended c h .steps k (omega arith)) ∙ sym (after-suc k o s c)
+
+  -- So it is for every cursor that came of a new one and whose place is within the stream.
+  pub appended-from-new : (c : Cursor) → FromNew c → c .place ≤ length s → Kept o s t c
+  appended-from-new c h l = appended c (record { within = l; fit = from-new-fit c h })
 
   -- From a new cursor: the items of the stream up to and including its last chunk are the first of the longer stream's.
   pub appended-items : take (length (settled (items o s))) (items o (s ++ t)) ≡ settled (items o s)
