@@ -10,11 +10,11 @@ use lib.ListN.{length, take, drop, length-append, length-drop, drop-of-length-le
 use lib.Seq.{drop-drop}
 use Rattle.num.specs.Answer.{gives}
 use Rattle.num.specs.declared.Order.{Order}
-use Rattle.frame.specs.Place.{shows, stops, gap}
+use Rattle.frame.specs.Place.{gap}
 use Rattle.frame.specs.declared.Stray.{Stray}
 use Rattle.frame.specs.declared.Ahead.{Ahead}
 use Rattle.frame.specs.declared.Ahead.the-variants.{End, Stretch, Cut, Chunk}
-use Rattle.frame.proofs.Looks.{is-chunk, is-cut, is-stretch, is-end, ahead-none}
+use Rattle.frame.proofs.Looks.{is-chunk, is-cut, is-end, ahead-none}
 use Rattle.frame.proofs.Frames.{frames-nil, frames-cut}
 use Rattle.effect.specs.Ready.{noState}
 use Rattle.reader.specs.Item.{Item, unfinished, isChunk}
@@ -22,14 +22,14 @@ use Rattle.reader.specs.Items.{Given, itemsFrom, items}
 use Rattle.reader.specs.Step.{Step, newCursor, stepBy, stepOf, after}
 use Rattle.reader.specs.declared.Cursor.{Cursor}
 use Rattle.reader.proofs.Laws.{step-ahead}
-use Rattle.reader.proofs.Theorems.{after-suc, told, ahead, one}
+use Rattle.reader.proofs.Theorems.{after-suc, ahead, one}
 use Rattle.reading.specs.Ends.{Sound}
 use Rattle.reading.specs.FromNew.{FromNew}
 use Rattle.reading.proofs.FromNew.{from-new-fit}
 use Rattle.reading.proofs.Next.{Next, Done, stands, new-sound}
-use Rattle.reading.proofs.Stretch.{stretch}
+use Rattle.reading.proofs.Causes.{no-second-skip}
 use Rattle.growing.specs.Settled.{settled}
-use Rattle.growing.proofs.Steps.{bytesAhead, aheadAt, some-ahead, chunk-same, skip-more, skip-same}
+use Rattle.growing.proofs.Steps.{bytesAhead, aheadAt, some-chunk, some-stretch, some-cut, chunk-same, skip-more, skip-same}
 
 -- ---- what is ahead of a cursor, by what stands there
 
@@ -37,13 +37,6 @@ same-item : {i j : Item} → gives i ≡ gives j → isChunk j ≡ isChunk i
 same-item {i} {j} e = let q : j ≡ i = cc in ap isChunk q
 
 module _ (o : Order) (s : List ℕ) (c : Cursor) (h : Sound s c) where
-  -- the items ahead, by one step
-  pub ahead-one : 0 < length (bytesAhead s c) → let t : Step = stepBy o (bytesAhead s c) c (aheadAt o s c) in
-      (stepOf o s c ≡ t) × (ahead o s c ≡ told (t .item) (t .shown) (ahead o s (t .cursor)))
-  ahead-one n =
-      let e = step-ahead o s c (h .within) (h .fit) in
-      (e, rw e at (one o s c (omega (arith, length-drop (c .place) s)) (h .fit)))
-
   pub ahead-end : aheadAt o s c ≡ End → ahead o s c ≡ []
   unfolding itemsFrom
   ahead-end e =
@@ -54,7 +47,7 @@ module _ (o : Order) (s : List ℕ) (c : Cursor) (h : Sound s c) where
   pub ahead-cut : aheadAt o s c ≡ Cut → (g : Given) × (isChunk (g .item) ≡ false) × (ahead o s c ≡ g ∷ [])
   unfolding itemsFrom
   ahead-cut e =
-      let n = some-ahead o (bytesAhead s c) Cut e (λ z. let y : _≡_ {A = ℕ} 0 1 = cc in omega arith) in
+      let n = some-cut o (bytesAhead s c) e in
       let d : drop (c .place + length (bytesAhead s c)) s ≡ [] = drop-of-length-le s {i = c .place + length (bytesAhead s c)} (omega (arith, length-drop (c .place) s)) in
       (record { item = unfinished (c .place) (length (bytesAhead s c)); shown = noState }, refl, rw (frames-cut o s (c .place) (omega (arith, length-drop (c .place) s)) (is-cut o (bytesAhead s c) e), d, frames-nil o))
 
@@ -116,16 +109,12 @@ module _ (o : Order) (s t : List ℕ) where
     after-skip : bytesAhead s (stepOf o s c .cursor) ≡ drop (gap o (bytesAhead s c)) (bytesAhead s c)
     after-skip = rw (skip-more o s t c h stray e .0) (sym (drop-drop (gap o (bytesAhead s c)) (c .place) s))
 
-    -- a search stops there, or it is the end
+    -- which begins no other
     not-twice : (again : Stray) → aheadAt o s (stepOf o s c .cursor) ≡ Stretch again → ⊥
     not-twice again k =
         let d = stepOf o s c .cursor in
-        let q : d .place ≡ c .place + gap o (bytesAhead s c) = rw (skip-more o s t c h stray e .0) in
-        let f : stops (shows o (drop (c .place + gap o (bytesAhead s c)) s)) ≡ false = rw q at (is-stretch o (bytesAhead s d) again k) in
-        ⊎-elim
-        (λ z. omega (arith, some-ahead o (bytesAhead s d) (Stretch again) k (λ y. let x : _≡_ {A = ℕ} 0 1 = cc in omega arith), length-drop (d .place) s))
-        (λ z. let v : true ≡ false = sym z ∙ f in let u : _≡_ {A = ℕ} 0 1 = cc in omega arith)
-        (stretch o s (c .place) (h .within) .1)
+        no-second-skip o s c h _ _ _ (ap (λ (x : Step). x .item) (skip-more o s t c h stray e .0)) _ _ _
+        (ap (λ (x : Step). x .item) (step-ahead o s d (n .sound .within) (n .sound .fit) ∙ ap (stepBy o (bytesAhead s d) d) k))
 
     skip-kept : (a : Ahead) → aheadAt o s (stepOf o s c .cursor) ≡ a → Kept o s t (stepOf o s c .cursor) → Kept o s t c
     unfolding settled
@@ -136,7 +125,7 @@ module _ (o : Order) (s t : List ℕ) where
     skip-kept (Stretch again) k r = absurd (not-twice again k)
     skip-kept (Chunk code size) k r =
         let d = stepOf o s c .cursor in
-        let m = next-item o s d (n .sound) (some-ahead o (bytesAhead s d) (Chunk code size) k (λ z. let y : _≡_ {A = ℕ} 0 1 = cc in omega arith)) in
+        let m = next-item o s d (n .sound) (some-chunk o (bytesAhead s d) code size k) in
         let w : settled (ahead o s d) ≡ m .given ∷ settled (ahead o s (stepOf o s d .cursor)) = rw (m .rest, next-chunk o s d (n .sound) m code size k) in
         next-kept c h n (skip-same o s t c h stray e code size (rw (← after-skip) (is-chunk o (bytesAhead s d) code size k))) (skip-on _ _ w) r
 
@@ -149,10 +138,10 @@ module _ (o : Order) (s t : List ℕ) where
     kept-by End e = none-kept c (rw (ahead-end o s c h e))
     kept-by Cut e = let w = ahead-cut o s c h e in none-kept c (rw (w .2, w .1))
     kept-by (Stretch stray) e =
-        let n = next-item o s c h (some-ahead o (bytesAhead s c) (Stretch stray) e (λ z. let y : _≡_ {A = ℕ} 0 1 = cc in omega arith)) in
+        let n = next-item o s c h (some-stretch o (bytesAhead s c) stray e) in
         skip-kept c h n stray e (aheadAt o s (stepOf o s c .cursor)) refl (on n)
     kept-by (Chunk code size) e =
-        let n = next-item o s c h (some-ahead o (bytesAhead s c) (Chunk code size) e (λ z. let y : _≡_ {A = ℕ} 0 1 = cc in omega arith)) in
+        let n = next-item o s c h (some-chunk o (bytesAhead s c) code size e) in
         next-kept c h n (chunk-same o s t c h code size e) (rw (n .rest, next-chunk o s c h n code size e)) (on n)
 
   kept-fuel : (f : ℕ) (c : Cursor) → Sound s c → length s ≤ c .place + f → Kept o s t c

@@ -26,7 +26,7 @@ use Rattle.reading.proofs.Next.{Next, Done, stands, new-sound}
 use Rattle.reading.proofs.Stretch.{stretch, stretch-only}
 use Rattle.growing.specs.Settled.{chunksOf}
 use Rattle.growing.specs.Held.{waits, heldBy, held}
-use Rattle.growing.proofs.Steps.{bytesAhead, aheadAt, some-ahead, bytes-more, sound-more, chunk-same, skip-more}
+use Rattle.growing.proofs.Steps.{bytesAhead, aheadAt, some-chunk, some-stretch, bytes-more, sound-more, chunk-same, skip-more}
 use Rattle.growing.proofs.Appended.{ahead-end, ahead-cut, next-item, next-more, next-chunk, next-skip}
 
 -- ---- a skipped stretch in pieces
@@ -40,7 +40,7 @@ module _ (o : Order) (s : List ℕ) where
   skip-chunks : (c : Cursor) → Sound s c → (stray : Stray) → aheadAt o s c ≡ Stretch stray → chunksOf (ahead o s c) ≡ chunksOf (ahead o s (inside c (gap o (bytesAhead s c))))
   unfolding chunksOf
   skip-chunks c h stray e =
-      let n = next-item o s c h (some-ahead o (bytesAhead s c) (Stretch stray) e (λ z. let y : _≡_ {A = ℕ} 0 1 = cc in omega arith)) in
+      let n = next-item o s c h (some-stretch o (bytesAhead s c) stray e) in
       let d : stepOf o s c .cursor ≡ inside c (gap o (bytesAhead s c)) = rw (step-ahead o s c (h .within) (h .fit), e) in
       rw (n .rest, next-skip o s c h n stray e, d)
 
@@ -80,7 +80,7 @@ module _ (o : Order) (s t : List ℕ) where
     chunk-split : (code size : ℕ) → aheadAt o s c ≡ Chunk code size → (d : Cursor) → Split (stepOf o s c .cursor) d → Split c d
     unfolding chunksOf
     chunk-split code size e d r =
-        let n = next-item o s c h (some-ahead o (bytesAhead s c) (Chunk code size) e (λ z. let y : _≡_ {A = ℕ} 0 1 = cc in omega arith)) in
+        let n = next-item o s c h (some-chunk o (bytesAhead s c) code size e) in
         let m = next-more o s t c h n (chunk-same o s t c h code size e) in
         let k = next-chunk o s c h n code size e in
         rw (m, n .rest, k) (ap (λ (gs : List Given). n .given ∷ gs) r)
@@ -92,7 +92,7 @@ module _ (o : Order) (s t : List ℕ) where
         let w = skip-more o s t c h stray e in
         let b = bytes-more o s t c h in
         let q : stepOf o s c .cursor ≡ inside c (gap o l) = rw (w .0) in
-        let a : aheadAt o (s ++ t) c ≡ Stretch stray = rw b (stretch-more o l t (some-ahead o l (Stretch stray) e (λ z. let y : _≡_ {A = ℕ} 0 1 = cc in omega arith)) stray e) in
+        let a : aheadAt o (s ++ t) c ≡ Stretch stray = rw b (stretch-more o l t (some-stretch o l stray e) stray e) in
         let g : gap o l ≤ gap o (bytesAhead (s ++ t) c) = rw b (gap-more o l t) in
         pieces o (s ++ t) c (sound-more o s t c h) stray a (gap o l) g ∙ (rw q at r) ∙ rw (skip-chunks o s c h stray e)
 
@@ -108,12 +108,12 @@ module _ (o : Order) (s t : List ℕ) where
       rw w (none-split c (rw (a .2, a .1)))
   split-by f r c h l (Stretch stray) e =
       let w : waits (stepOf o s c .item) ≡ false = rw (step-ahead o s c (h .within) (h .fit), e) in
-      let n = next-item o s c h (some-ahead o (bytesAhead s c) (Stretch stray) e (λ z. let y : _≡_ {A = ℕ} 0 1 = cc in omega arith)) in
+      let n = next-item o s c h (some-stretch o (bytesAhead s c) stray e) in
       let d = stepOf o s c .cursor in
       rw w (skip-split c h stray e (heldBy f o s d) (r d (n .sound) (omega (arith, n .spans .from, n .spans .to, n .spans .some))))
   split-by f r c h l (Chunk code size) e =
       let w : waits (stepOf o s c .item) ≡ false = rw (step-ahead o s c (h .within) (h .fit), e) in
-      let n = next-item o s c h (some-ahead o (bytesAhead s c) (Chunk code size) e (λ z. let y : _≡_ {A = ℕ} 0 1 = cc in omega arith)) in
+      let n = next-item o s c h (some-chunk o (bytesAhead s c) code size e) in
       let d = stepOf o s c .cursor in
       rw w (chunk-split c h code size e (heldBy f o s d) (r d (n .sound) (omega (arith, n .spans .from, n .spans .to, n .spans .some))))
 

@@ -31,10 +31,18 @@ bytesAhead s c = drop (c .place) s
 abbrev pub aheadAt : Order → List ℕ → Cursor → Ahead
 aheadAt o s c = aheadOf o (bytesAhead s c)
 
--- a byte is ahead where anything but the end is
-pub some-ahead : (o : Order) (l : List ℕ) (a : Ahead) → aheadOf o l ≡ a → (a ≡ End → ⊥) → 0 < length l
-some-ahead o [] a e h = absurd (h (sym e))
-some-ahead o (x ∷ l) a e h = omega arith
+-- a byte is ahead where a chunk is, or a stretch, or an unfinished end
+pub some-chunk : (o : Order) (l : List ℕ) (code size : ℕ) → aheadOf o l ≡ Chunk code size → 0 < length l
+some-chunk o [] code size e = let z : _≡_ {A = ℕ} 0 1 = cc in absurd (omega arith)
+some-chunk o (x ∷ l) code size e = omega arith
+
+pub some-stretch : (o : Order) (l : List ℕ) (stray : Stray) → aheadOf o l ≡ Stretch stray → 0 < length l
+some-stretch o [] stray e = let z : _≡_ {A = ℕ} 0 1 = cc in absurd (omega arith)
+some-stretch o (x ∷ l) stray e = omega arith
+
+pub some-cut : (o : Order) (l : List ℕ) → aheadOf o l ≡ Cut → 0 < length l
+some-cut o [] e = let z : _≡_ {A = ℕ} 0 1 = cc in absurd (omega arith)
+some-cut o (x ∷ l) e = omega arith
 
 module _ (o : Order) (s t : List ℕ) (c : Cursor) (h : Sound s c) where
   pub bytes-more : bytesAhead (s ++ t) c ≡ bytesAhead s c ++ t
@@ -53,7 +61,7 @@ module _ (o : Order) (s t : List ℕ) (c : Cursor) (h : Sound s c) where
   pub chunk-same : (code size : ℕ) → aheadAt o s c ≡ Chunk code size → stepOf o (s ++ t) c ≡ stepOf o s c
   chunk-same code size e =
       let l = bytesAhead s c in
-      let n = some-ahead o l (Chunk code size) e (λ z. let y : _≡_ {A = ℕ} 0 1 = cc in omega arith) in
+      let n = some-chunk o l code size e in
       step-there ∙ rw (chunk-more o l t n code size e, body-more o l t code size (is-chunk o l code size e)) (sym (step-here ∙ rw e))
 
   -- a step that skips a stretch
@@ -61,7 +69,7 @@ module _ (o : Order) (s t : List ℕ) (c : Cursor) (h : Sound s c) where
       (stepOf o s c ≡ skips c stray (gap o (bytesAhead s c))) × (stepOf o (s ++ t) c ≡ skips c stray (gap o (bytesAhead s c ++ t)))
   skip-more stray e =
       let l = bytesAhead s c in
-      let n = some-ahead o l (Stretch stray) e (λ z. let y : _≡_ {A = ℕ} 0 1 = cc in omega arith) in
+      let n = some-stretch o l stray e in
       (step-here ∙ rw e, step-there ∙ rw (stretch-more o l t n stray e))
 
   -- and one behind which a complete chunk stands

@@ -83,9 +83,9 @@ module _ (o : Order) (s : List ℕ) where
   left-by l c p n cause (Chunk code size) e = let z : _≡_ {A = ℕ} 0 1 = cc in absurd (omega arith)
 
   -- so a step behind one that skipped does not skip
-  twice : (c : Cursor) → Sound s c → (p n : ℕ) (cause : Cause) → stepOf o s c .item ≡ gives (skipped p n cause) →
+  pub no-second-skip : (c : Cursor) → Sound s c → (p n : ℕ) (cause : Cause) → stepOf o s c .item ≡ gives (skipped p n cause) →
       (q m : ℕ) (k : Cause) → stepOf o s (stepOf o s c .cursor) .item ≡ gives (skipped q m k) → ⊥
-  twice c h p n cause e q m k i =
+  no-second-skip c h p n cause e q m k i =
       let l = step-ahead o s c (h .within) (h .fit) in
       let f : stepOf o s c .cursor .«in_step» ≡ false = rw l (left-by (drop (c .place) s) c p n cause (aheadOf o (drop (c .place) s)) (rw l at e)) in
       let v : true ≡ false = sym (came-in-step c h q m k i) ∙ f in
@@ -97,7 +97,7 @@ module _ (o : Order) (s : List ℕ) where
   never-skips-twice c a b on next p n cause e q m k i =
       let t = step-met o s c a on in
       let d = skipped-exactly o s c a on p n cause .0 e in
-      twice c (d .sound) p n cause (sym (t .item) ∙ ap itemSaid e) q m k
+      no-second-skip c (d .sound) p n cause (sym (t .item) ∙ ap itemSaid e) q m k
       (rw (t .cursor) at (sym (step-met o s (a .result .cursor) b next .item) ∙ ap itemSaid i))
 
   -- ---- in the list of a stream's items
@@ -129,4 +129,4 @@ module _ (o : Order) (s : List ℕ) where
   never-two-skips k p n cause h e q m x i =
       let a = reading-ends o s .each k (omega arith) .item ∙ ap gives e in
       let b = reading-ends o s .each (suc k) h .item ∙ ap gives i in
-      twice (after k o s newCursor) (sound-after k newCursor (new-sound s)) p n cause a q m x (rw (after-suc k o s newCursor) at b)
+      no-second-skip (after k o s newCursor) (sound-after k newCursor (new-sound s)) p n cause a q m x (rw (after-suc k o s newCursor) at b)
