@@ -1,6 +1,6 @@
 -- Up to the byte that is compared, the sync word and the stream's end agree, whichever of the two is the shorter.
 use Prim.Native.Nat.{ℕ, _+_, _-_, _≤_, _<_}
-use mathlib.Core.Path.{_≡_, refl, sym, ap, _∙_}
+use mathlib.Core.Path.{_≡_, refl, sym, _∙_}
 use mathlib.Core.List.{List}
 use mathlib.Core.Logic.{_⊎_, inl, inr, ⊎-elim}
 use mathlib.Core.Bool.{Bool, true, false, _&&_}
@@ -14,7 +14,7 @@ use Rattle.num.specs.Choice.{both}
 use Rattle.num.specs.declared.Order.{Order}
 use Rattle.frame.specs.Place.{syncBytes, starts, begun, shows}
 use Rattle.frame.specs.declared.At.the-variants.{Unfinished}
-use Rattle.frame.proofs.Laws.{sync-length, starts-step, starts-done, begun-is, shows-begun, shows-cut}
+use Rattle.frame.proofs.Laws.{starts-step, starts-done, begun-is, shows-begun, shows-cut}
 use Rattle.frame.proofs.near_end.Statement.{statement}
 use Rattle.frame.proofs.near_end.Tie as tie
 
@@ -77,7 +77,7 @@ compared : (c : tie.In-loop Inv-loop μ-loop) →
 compared c =
     let a = c .before .before .before .before .args in
     let w = c .before .before .u32-bytes in
-    let n : length (w .result) ≡ 4 = ap length (w .ensures) ∙ sync-length (a .order) in
+    let n : length (w .result) ≡ 4 = search needs in
     let k = c .before .loop .k in
     let h = within c in
     let e : a .place + (k + 1) ≡ a .place + k + 1 = omega arith in
@@ -92,7 +92,7 @@ turned : (c : tie.In-loop Inv-loop μ-loop) →
 turned c =
     let a = c .before .before .before .before .args in
     let w = c .before .before .u32-bytes in
-    let n : length (w .result) ≡ 4 = ap length (w .ensures) ∙ sync-length (a .order) in
+    let n : length (w .result) ≡ 4 = search needs in
     let k = c .before .loop .k in
     let h = within c in
     let e : a .place + (k + 1) ≡ a .place + k + 1 = omega arith in
@@ -128,7 +128,7 @@ returns-2 c =
     let l = drop (a .place) (a .s .now) in
     let w = c .before .before .u32-bytes in
     let k = c .before .loop .k in
-    let n : length (w .result) ≡ 4 = ap length (w .ensures) ∙ sync-length (a .order) in
+    let n : length (w .result) ≡ 4 = search needs in
     let m : length l ≡ length (a .s .now) - a .place = length-drop (a .place) (a .s .now) in
     ⊎-elim
     (λ h.
