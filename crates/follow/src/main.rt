@@ -32,8 +32,8 @@ fn follow(bytes: &mut [u8]) {
     ended(&bytes[0..n], cursor);
 }
 
-// Reads the bytes that come next: 64 at most, so that a file that is whole comes in parts too. How many there are then; as
-// many as before at the end of the input, and where the slice is full.
+// Reads the bytes that come next: 64 at most, so that a file that is whole comes in parts too. The answer is how many
+// bytes there are then; it is `from` at the end of the input, and where the slice is full.
 fn part(bytes: &mut [u8], from: usize) -> usize
     requires { ⌜ from ≤ length (now bytes) ⌝ }
     ensures { λ r. ⌜ (from ≤ r) × (r ≤ length (now (bytes .exit))) ⌝ }

@@ -59,7 +59,8 @@ goodSize n = both (leb n sizeLimit) (eqb (n % 4) 0)
 abbrev pub badSize : ℕ → BadSize
 badSize n = pick (leb n sizeLimit) Uneven Large
 
--- the bytes, one at least, are the first ones of the sync word
+-- the bytes, one at least, are the first ones of the sync word; one to three of them, where the whole word does not
+-- stand there
 abbrev pub begun : Order → List ℕ → Bool
 begun o [] = false
 begun o (x ∷ l) = starts (x ∷ l) (syncBytes o)

@@ -132,8 +132,8 @@ fn headed(order: Order, s: &[u8], place: usize) -> At
     At::Complete { code, size }
 }
 
-// What the stream shows at a place from which on it has too few bytes for a header: an unfinished end where these
-// bytes, the first four of them or fewer, are those of the sync word.
+// What the stream shows at a place where fewer bytes are left than a header has: an unfinished end where these bytes
+// begin with the sync word, or the sync word begins with them; else no sync.
 fn near_end(order: Order, s: &[u8], place: usize) -> At
     requires { ⌜ (place < length (now s)) × (length (now s) < place + 12) ⌝ }
     ensures { λ r. ⌜ r ≡ shows order (drop place (now (s .entry))) ⌝ }
@@ -150,7 +150,7 @@ fn near_end(order: Order, s: &[u8], place: usize) -> At
     At::Unfinished
 }
 
-// The sync word of an order, read in the little one, which processors read without a swap.
+// The four bytes of an order's sync word, read as a number in little order, which our processors do without a swap.
 fn sync_in_little(order: Order) -> u32
     ensures { λ r. ⌜ bytesOf Little 4 r ≡ syncBytes order ⌝ }
 {

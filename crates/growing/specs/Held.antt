@@ -18,13 +18,13 @@ waits (gives (unfinished place n)) = true
 waits (gives (skipped place n cause)) = false
 waits (gives (chunk place code size says)) = false
 
--- the cursor before the step whose answer it stops at, after at most so many steps
+-- the cursor before the step at whose answer the reader stops, which makes at most so many steps before
 unfoldable pub heldBy : ℕ → Order → List ℕ → Cursor → Cursor
 heldBy zero o s c = c
 heldBy (suc f) o s c =
     let t : Step = stepOf o s c in
     pick (waits (t .item)) c (heldBy f o s (t .cursor))
 
--- each step before it takes a byte at least, so as many steps as bytes are enough
+-- each of those steps takes a byte at least, so as many steps as there are bytes are enough
 abbrev pub held : Order → List ℕ → Cursor → Cursor
 held o s c = heldBy (length s) o s c
