@@ -1,5 +1,5 @@
--- With more bytes appended, all items up to and including the last complete chunk stay, with the states that they show and the
--- cursor after them.
+-- What is appended to a stream changes nothing before the end of its last complete chunk: no item there, no state that one of
+-- them shows, and no cursor to the one behind that chunk.
 use Prim.Native.Nat.{ℕ, zero, suc, _+_, _≤_, _<_}
 use mathlib.Core.Path.{_≡_, refl, ap, sym, _∙_}
 use mathlib.Core.Bool.{true, false}
@@ -163,6 +163,6 @@ module _ (o : Order) (s t : List ℕ) where
   pub appended-from-new : (c : Cursor) → FromNew c → c .place ≤ length s → Kept o s t c
   appended-from-new c h l = appended c (record { within = l; fit = from-new-fit c h })
 
-  -- From a new cursor: the items of the stream up to and including its last chunk are the first of the longer stream's.
+  -- From a new cursor: the settled items of the stream are the first items of the longer stream.
   pub appended-items : take (length (settled (items o s))) (items o (s ++ t)) ≡ settled (items o s)
   appended-items = appended newCursor (new-sound s) .items

@@ -1,4 +1,4 @@
--- The items that no appended byte can change: those up to and including the last complete chunk. And the chunks alone.
+-- The items that no appended byte can change: the last complete chunk, and all before it. And the chunks alone.
 use mathlib.Core.Bool.{Bool, true, false}
 use mathlib.Core.List.{List, [], _∷_}
 use Rattle.num.specs.Choice.{pick}
@@ -11,7 +11,7 @@ keptBefore true g rest = g ∷ rest
 keptBefore false g [] = []
 keptBefore false g (r ∷ rest) = g ∷ (r ∷ rest)
 
--- the items up to and including the last chunk; none where there is no chunk
+-- the last chunk and all items before it; none where there is no chunk
 unfoldable pub settled : List Given → List Given
 settled [] = []
 settled (g ∷ rest) = keptBefore (isChunk (g .item)) g (settled rest)
