@@ -6,3 +6,4 @@ pub mod Theorems
 pub mod More
 pub mod Bad
 pub mod Short
+pub mod Rows
