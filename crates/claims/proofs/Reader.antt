@@ -1,10 +1,11 @@
--- A cursor, a step with its item, and the number of items are each one answer.
+-- A cursor, a step with its item, the number of items and that of rows are each one answer.
 use mathlib.Core.Path.{sym, _∙_}
 use Rattle.reader.proofs.Cursor.accept.Reads as accept
 use Rattle.reader.proofs.Cursor.lose_step.Reads as lose_step
 use Rattle.reader.proofs.Cursor.new.Reads as new
 use Rattle.reader.proofs.Cursor.step.Reads as step
 use Rattle.reader.proofs.count.Reads as count
+use Rattle.reader.proofs.rows_for.Reads as rows_for
 use Rattle.reader.proofs.Told.{item-told}
 use Rattle.claims.proofs.Promise.{OneAnswer, OnePart}
 use Rattle.reader.proofs.Item.number.Reads as number
@@ -29,6 +30,9 @@ step-one-answer κs a r r′ s s′ p q =
 
 pub count-one-answer : OneAnswer count.Post
 count-one-answer κs a r r′ s s′ p q = p ∙ sym q
+
+pub rows-for-one-answer : OneAnswer rows_for.Post
+rows-for-one-answer κs a r r′ s s′ p q = p ∙ sym q
 
 pub item-number-one-answer : OneAnswer number.Post
 item-number-one-answer κs a r r′ s s′ p q = p ∙ sym q

@@ -4,3 +4,4 @@ pub mod Step
 pub mod Items
 pub mod Part
 pub mod IsStep
+pub mod Rows

@@ -16,6 +16,7 @@ ghost use Rattle.reader.specs.Cause.{causeOf};
 ghost use Rattle.reader.specs.Item.{itemSaid, itemNumber};
 ghost use Rattle.reader.specs.Items.{items};
 ghost use Rattle.reader.specs.IsStep.{IsStep};
+ghost use Rattle.reader.specs.Rows.{rowsFor};
 ghost use Rattle.reader.specs.Step.{newCursor, before, accepted, lost, accepts, cuts, skips, stepOf};
 use effect::Verdict;
 use frame::Ahead;
@@ -338,4 +339,11 @@ pub fn count(order: Order, s: &[u8]) -> usize
         n += 1;
     }
     n
+}
+
+// How many rows a table needs for the items of any stream of so many bytes, in either order: no such stream has more items.
+pub fn rows_for(bytes: usize) -> usize
+    ensures { λ r. ⌜ r ≡ rowsFor bytes ⌝ }
+{
+    2 * (bytes / 13) + 2
 }
