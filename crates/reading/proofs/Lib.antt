@@ -8,3 +8,5 @@ pub mod Answers
 pub mod Causes
 pub mod FromNew
 pub mod FromCalls
+pub mod Fullest
+pub mod Rows

@@ -2,3 +2,4 @@ pub mod Ends
 pub mod Bytes
 pub mod Due
 pub mod FromNew
+pub mod Fullest
