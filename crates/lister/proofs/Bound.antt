@@ -9,14 +9,15 @@ use lib.ListN.{length, length-append, length-map}
 use borrow.Author.Tests.{ltb-true, ltb-false}
 use Rattle.num.specs.declared.Order.{Order}
 use Rattle.reader.specs.Items.{Given, items}
+use Rattle.reader.specs.Rows.{rowsFor}
 use Rattle.reader.specs.Step.{newCursor, stepOf, Fit}
 use Rattle.reader.specs.declared.Cursor.{Cursor}
 use Rattle.reader.proofs.Theorems.{new-fit, step-keeps-fit, ahead, goes}
+use Rattle.reader.proofs.Rows.{items-most}
 use Rattle.listing.specs.Lines.{firstLine, lastLine, answerLine, itemLines, listing}
 use Rattle.lister.specs.Listed.{most, longest, itemsOf}
 use Rattle.lister.proofs.Lengths.{first-length, last-length, line-length}
 use Rattle.lister.proofs.Laws.{linesOf, linesAhead, count-next, line-next, none-ahead}
-use Rattle.lister.proofs.Rows.{items-few}
 
 module _ (o : Order) (s : List ℕ) (m : length s < 100000) where
   -- the lines ahead of a cursor have at most 35 bytes each
@@ -56,7 +57,7 @@ module _ (o : Order) (s : List ℕ) where
 pub listing-length : (o : Order) (s : List ℕ) → length s ≤ most → length (listing o (length s) (itemsOf o s)) ≤ longest
 listing-length o s h =
     let n = length (itemsOf o s) in
-    let k : 6 * n ≤ length s + 12 = rw (items-many o s) (items-few o s) in
+    let k : n ≤ rowsFor (length s) = rw (items-many o s) (items-most o s) in
     let l : length (itemLines (itemsOf o s)) ≤ 35 * n = rw (items-many o s) (lines-length o s (omega arith)) in
     omega (
       arith,

@@ -1,7 +1,7 @@
 pub mod Lengths
-pub mod Rows
 pub mod Laws
 pub mod Bound
 pub mod Cases
+pub mod Printed
 pub mod Theorems
 pub mod Promises

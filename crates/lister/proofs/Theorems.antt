@@ -27,7 +27,7 @@ use Rattle.lister.proofs.Cases.{listed-long, listed-none, listed-by}
 
 -- ---- how long a listing is
 
--- No stream has a listing of more than 382,368 bytes, which is what the code has as ROOM.
+-- No stream has a listing of more than 352,968 bytes, which is what the code has as ROOM.
 pub listed-room : (s : List ℕ) → length (listed s) ≤ longest
 listed-room s = listed-by s (λ (l : List ℕ). length l ≤ longest) (λ h. omega arith) (λ o h e. listing-length o s h) (λ n h e. omega arith)
 

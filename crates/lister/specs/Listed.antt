@@ -1,5 +1,5 @@
 -- The whole listing of a stream, and what laying it into a slice answers.
-use Prim.Native.Nat.{ℕ}
+use Prim.Native.Nat.{ℕ, _+_, _*_}
 use mathlib.Core.List.{List, map}
 use lib.Dec.{ltb, leb}
 use lib.ListN.{length}
@@ -9,6 +9,7 @@ use Rattle.num.specs.declared.Order.{Order}
 use Rattle.frame.specs.Place.{orderOf}
 use Rattle.reader.specs.Item.{Item}
 use Rattle.reader.specs.Items.{Given, items}
+use Rattle.reader.specs.Rows.{rowsFor}
 use Rattle.listing.specs.Lines.{longLine, noneLine, listing}
 use Rattle.lister.specs.declared.Listed.{Listed}
 use Rattle.lister.specs.declared.Listed.the-variants.{Laid, Needs}
@@ -30,9 +31,19 @@ listedBy (refuses n) s = noneLine
 unfoldable pub listed : List ℕ → List ℕ
 listed s = pick (ltb most (length s)) longLine (listedBy (orderOf s) s)
 
--- no listing has more bytes: 35 for each of 10,924 items, 18 for the first line and 10 for the last
+-- the bytes that the line of an item, the first line and the last line have at most
+abbrev pub longestLine : ℕ
+longestLine = 35
+
+abbrev pub longestFirst : ℕ
+longestFirst = 18
+
+abbrev pub longestLast : ℕ
+longestLast = 10
+
+-- no listing has more bytes: the first line, a line for each item that so many bytes may have, and the last line
 abbrev pub longest : ℕ
-longest = 382368
+longest = longestFirst + rowsFor most * longestLine + longestLast
 
 -- the answer for a listing of n bytes and a slice of `room` bytes: it is laid where it fits
 abbrev pub laidIn : ℕ → ℕ → Listed

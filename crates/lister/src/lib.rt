@@ -18,8 +18,12 @@ pub const MOST: usize = 65536;
 // Room for a stream: one byte more than are listed, which tells a stream that is too long.
 pub const STREAM_ROOM: usize = 65537;
 
-// Room for a listing: no stream has a longer one.
-pub const ROOM: usize = 382368;
+// The most items of a stream that is listed: reader::rows_for of MOST, as a constant's value.
+const ROWS: usize = 2 * (MOST / 13) + 2;
+
+// Room for a listing: 18 bytes for its first line, 35 for the line of each item and 10 for its last line. No stream has
+// a longer one.
+pub const ROOM: usize = 18 + ROWS * 35 + 10;
 
 // What laying a listing answers.
 pub enum Listed {

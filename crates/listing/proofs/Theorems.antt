@@ -61,7 +61,7 @@ module _ (P : ℕ → Type 0) (one : (n : ℕ) → n < 10 → P n) (more : (n : 
   digits-fuel (suc f) n h = digits-by f n (ltb n 10) refl (λ (k : 9 < n). digits-fuel f (n / 10) (omega arith))
 
   -- what holds of one digit, and with a digit more, holds of every number
-  by-digits : (n : ℕ) → P n
+  pub by-digits : (n : ℕ) → P n
   by-digits n = digits-fuel (suc n) n (omega arith)
 
 ReadsBack : ℕ → Type 0

@@ -4,11 +4,11 @@ use mathlib.Core.Path.{_≡_, ap, sym, _∙_}
 use native.Mathlib.Omega.{arith}
 use borrow.Author.Needs.{needs}
 use lib.ListN.{length}
+use Rattle.reader.proofs.Rows.{items-most}
 use Rattle.listing.specs.Lines.{firstLine, lastLine, itemLines}
 use Rattle.listing.specs.Text.{shown, textOf}
 use Rattle.lister.specs.Listed.{itemsOf}
 use Rattle.lister.proofs.Lengths.{first-length, last-length}
-use Rattle.lister.proofs.Rows.{items-few}
 use Rattle.lister.proofs.Laws.{text-room, text-shows, three-lay}
 use Rattle.lister.proofs.Bound.{lines-length, items-many}
 use Rattle.lister.proofs.ordered.Statement.{statement}
@@ -50,7 +50,7 @@ put-requires-2 c κs =
     let s = b .args .s .now in
     let m : length s < 100000 = omega (arith, b .pre) in (
       text-room _ _ (c .before .last-line .ensures),
-      omega (arith, l .lines .ensures .0, p .put .ensures .0, ap length (f .0), f .1, lines-length o s m, items-few o s, b .pre),
+      omega (arith, l .lines .ensures .0, p .put .ensures .0, ap length (f .0), f .1, lines-length o s m, items-most o s, b .pre),
     )
 
 same-length : tie.Need-same-length
@@ -67,7 +67,7 @@ returns c =
     let o = b .args .order in
     let s = b .args .s .now in
     let k : n .count .result ≡ length (itemsOf o s) = n .count .ensures ∙ sym (items-many o s) in
-    let w : length (lastLine (length (itemsOf o s))) ≤ 96 = omega (arith, last-length (length (itemsOf o s)) (omega (arith, items-many o s, items-few o s, b .pre))) in
+    let w : length (lastLine (length (itemsOf o s))) ≤ 96 = omega (arith, last-length (length (itemsOf o s)) (omega (arith, items-many o s, items-most o s, b .pre))) in
     let e : shown (z .before .before .last-line .result) ≡ lastLine (length (itemsOf o s)) =
     text-shows _ _ (z .before .before .last-line .ensures ∙ ap (λ (i : ℕ). textOf (lastLine i)) k) w in
     three-lay (b .args .out .now) _ _ _ (firstLine o (length s)) (itemLines (itemsOf o s)) (lastLine (length (itemsOf o s))) (p .put .result) (l .lines .result) (z .put2 .result)
