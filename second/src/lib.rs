@@ -7,9 +7,9 @@
 //! [`cover`] decide what a data chunk means, [`reader`] joins them, and
 //! [`samples`] copies numbers out; [`cursor`] lets both begin anywhere, with
 //! any state. On top stand [`mod@list`], [`mod@dump`], [`filecheck`] and
-//! [`write`](mod@write); [`make`](mod@make) and [`recordings`] put streams
-//! together, [`examples`] has what the example programs print, and
-//! [`trials`] holds what is compared.
+//! [`write`](mod@write), and [`rows`] bounds how many items there are;
+//! [`make`](mod@make) and [`recordings`] put streams together, [`examples`]
+//! has what the example programs print, and [`trials`] holds what is compared.
 
 pub mod body;
 pub mod check;
@@ -29,6 +29,7 @@ pub mod possible;
 pub mod reader;
 pub mod recordings;
 pub mod rng;
+pub mod rows;
 pub mod samples;
 pub mod search;
 pub mod state;

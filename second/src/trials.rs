@@ -1,6 +1,7 @@
 //! What is compared with the library for each stream: its dump, the file
-//! check in both orders, and digests of what copying and writing answer and
-//! leave behind, and of what cursors made at will are answered.
+//! check in both orders, its items counted and the rows for them, and digests
+//! of what copying and writing answer and leave behind, and of what cursors
+//! made at will are answered.
 
 mod cursors;
 
@@ -13,6 +14,7 @@ use crate::list::{line, MOST_BYTES};
 use crate::make::make;
 use crate::order::Order;
 use crate::reader::{Item, Reader, Verdict};
+use crate::rows::rows_for;
 use crate::samples::CopyRefusal;
 use crate::verdicts::Verdicts;
 use crate::write::write_at;
@@ -201,6 +203,14 @@ pub fn trial(stream: &[u8], met: &mut Met) -> String {
             }
         };
         line(&mut text, format_args!("check {} {answer}", order.name()));
+    }
+    for order in [Order::Big, Order::Little] {
+        let items = Reader::new(order, stream).count();
+        line(&mut text, format_args!("items {} {items}", order.name()));
+    }
+    let bytes = stream.len() as u64;
+    for (head, bytes) in [("rows", bytes), ("most rows", u64::MAX - bytes)] {
+        line(&mut text, format_args!("{head} {}", rows_for(bytes)));
     }
     for order in [Order::Big, Order::Little] {
         let digest = copies(order, stream, met);

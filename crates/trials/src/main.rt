@@ -1,10 +1,11 @@
-// Runs each stream of the file `streams`: its dump, the file check in both orders, digests of what copying and writing
-// answer and leave, and of what cursors made at will are answered. The file has the number of streams, then for each
-// its length and its bytes; both numbers take four bytes, the lowest first.
+// Runs each stream of the file `streams`: its dump, the file check in both orders, its items counted and the rows for
+// them, digests of what copying and writing answer and leave, and of what cursors made at will are answered. The file
+// has the number of streams, then for each its length and its bytes; both numbers take four bytes, the lowest first.
 mod answer;
 mod check;
 mod copies;
 mod cursors;
+mod rows;
 mod states;
 mod values;
 mod writes;
@@ -22,6 +23,7 @@ fn next(fd: i32) -> usize {
 fn trial(s: &[u8]) {
     show::dump(s);
     check::both(s);
+    rows::both(s);
     copies::both(s);
     writes::both(s);
     values::both(s);
