@@ -15,14 +15,14 @@ use Rattle.reader.specs.declared.Cursor.{Cursor}
 use Rattle.reader.proofs.Theorems.{new-fit, step-keeps-fit, ahead, goes}
 use Rattle.reader.proofs.Rows.{items-most}
 use Rattle.listing.specs.Lines.{firstLine, lastLine, answerLine, itemLines, listing}
-use Rattle.lister.specs.Listed.{most, longest, itemsOf}
+use Rattle.lister.specs.Listed.{most, longestLine, longest, itemsOf}
 use Rattle.lister.proofs.Lengths.{first-length, last-length, line-length}
 use Rattle.lister.proofs.Laws.{linesOf, linesAhead, count-next, line-next, none-ahead}
 
 module _ (o : Order) (s : List ℕ) (m : length s < 100000) where
-  -- the lines ahead of a cursor have at most 35 bytes each
+  -- no line ahead of a cursor is longer than the longest
   Short : Cursor → Type 0
-  Short c = length (linesAhead o s c) ≤ 35 * length (ahead o s c)
+  Short c = length (linesAhead o s c) ≤ longestLine * length (ahead o s c)
 
   short-by : (f : ℕ) (c : Cursor) (b : Bool) → ltb (c .place) (length s) ≡ b → Fit c → c .place ≤ length s → length s < c .place + suc f →
       ((d : Cursor) → Fit d → d .place ≤ length s → length s < d .place + f → Short d) → Short c
@@ -43,8 +43,8 @@ module _ (o : Order) (s : List ℕ) (m : length s < 100000) where
   short zero c k h n = absurd (omega arith)
   short (suc f) c k h n = short-by f c (ltb (c .place) (length s)) refl k h n (λ d. short f d)
 
-  -- the lines of the items have at most 35 bytes each
-  pub lines-length : length (itemLines (itemsOf o s)) ≤ 35 * length (items o s)
+  -- nor is the line of any item
+  pub lines-length : length (itemLines (itemsOf o s)) ≤ longestLine * length (items o s)
   unfolding Short
   lines-length = short (suc (length s)) newCursor new-fit (omega arith) (omega arith)
 
@@ -58,7 +58,7 @@ pub listing-length : (o : Order) (s : List ℕ) → length s ≤ most → length
 listing-length o s h =
     let n = length (itemsOf o s) in
     let k : n ≤ rowsFor (length s) = rw (items-many o s) (items-most o s) in
-    let l : length (itemLines (itemsOf o s)) ≤ 35 * n = rw (items-many o s) (lines-length o s (omega arith)) in
+    let l : length (itemLines (itemsOf o s)) ≤ longestLine * n = rw (items-many o s) (lines-length o s (omega arith)) in
     omega (
       arith,
       first-length o (length s) (omega arith),

@@ -26,7 +26,7 @@ use Rattle.listing.specs.Lines.{answerLine, itemLines}
 use Rattle.listing.specs.Text.{textOf, shown}
 use Rattle.listing.specs.declared.string.Text.{Text}
 use Rattle.listing.proofs.Shown.{shows-all, text-len}
-use Rattle.lister.specs.Listed.{itemsOf, laidIn}
+use Rattle.lister.specs.Listed.{longestLine, itemsOf, laidIn}
 use Rattle.lister.specs.declared.Listed.the-variants.{Laid, Needs}
 use Rattle.lister.specs.Inner.Laid.{Lays}
 use Rattle.lister.proofs.Lengths.{line-length}
@@ -133,7 +133,7 @@ module _ (o : Order) (s : List ℕ) (c : Cursor) where
 pub record SoFar (o : Order) (s d : List ℕ) (at : ℕ) (e : List ℕ) (c : Cursor) (to : ℕ) : Type 0 where
   pub fit : Fit c
   pub within : c .place ≤ length s
-  pub below : to ≤ at + 35 * c .place
+  pub below : to ≤ at + longestLine * c .place
   pub count : to + length (linesAhead o s c) ≡ at + length (itemLines (itemsOf o s))
   pub same : length e ≡ length d
   pub laid : at + length (itemLines (itemsOf o s)) ≤ length d → splice e to (linesAhead o s c) ≡ splice d at (itemLines (itemsOf o s))

@@ -38,6 +38,7 @@ use Rattle.reader.specs.declared.Cursor.{Cursor}
 use Rattle.reader.proofs.Laws.{step-ahead, chunk-ends}
 use Rattle.listing.specs.Lines.{verdictWord, firstLine, lastLine, orderHead, answerLine}
 use Rattle.listing.proofs.Shown.{decimal-length, count-length, stretch-length, chunk-length}
+use Rattle.lister.specs.Listed.{longestLine, longestFirst, longestLast}
 
 -- ---- the number of what is said of a chunk has at most two digits
 
@@ -108,14 +109,14 @@ head-length : (o : Order) → length (orderHead o) ≤ 11
 head-length Big = omega arith
 head-length Little = omega arith
 
-pub first-length : (o : Order) (n : ℕ) → n < 100000 → length (firstLine o n) ≤ 18
+pub first-length : (o : Order) (n : ℕ) → n < 100000 → length (firstLine o n) ≤ longestFirst
 first-length o n h = omega (arith, head-length o, count-length 4 (orderHead o) n h)
 
-pub last-length : (n : ℕ) → n < 100000 → length (lastLine n) ≤ 10
+pub last-length : (n : ℕ) → n < 100000 → length (lastLine n) ≤ longestLast
 last-length n h = omega (arith, count-length 4 (0x65 ∷ 0x6E ∷ 0x64 ∷ []) n h)
 
 module _ (o : Order) (s : List ℕ) (c : Cursor) (m : length s < 100000) (h : c .place ≤ length s) where
-  line-by : (a : Ahead) → aheadOf o (drop (c .place) s) ≡ a → length (answerLine (stepBy o (drop (c .place) s) c a .item)) ≤ 35
+  line-by : (a : Ahead) → aheadOf o (drop (c .place) s) ≡ a → length (answerLine (stepBy o (drop (c .place) s) c a .item)) ≤ longestLine
   line-by End e = omega arith
   line-by (Chunk code size) e =
       let k = chunk-ends o s (c .place) code size (is-chunk o (drop (c .place) s) code size e) in
@@ -130,6 +131,5 @@ module _ (o : Order) (s : List ℕ) (c : Cursor) (m : length s < 100000) (h : c 
       let n = length-drop (c .place) s in
       omega (arith, stretch-length 4 (0x73 ∷ 0x6B ∷ 0x69 ∷ 0x70 ∷ []) (c .place) (gap o (drop (c .place) s)) (omega arith) (omega arith))
 
-  -- the line of a step's item has at most 35 bytes
-  pub line-length : Fit c → length (answerLine (stepOf o s c .item)) ≤ 35
+  pub line-length : Fit c → length (answerLine (stepOf o s c .item)) ≤ longestLine
   line-length f = rw (step-ahead o s c h f) (line-by (aheadOf o (drop (c .place) s)) refl)

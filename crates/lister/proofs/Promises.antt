@@ -11,8 +11,8 @@ use Rattle.num.specs.declared.Order.{Order}
 use Rattle.lay.proofs.Splice.{laid-first}
 use Rattle.frame.specs.Place.{orderOf}
 use Rattle.reader.specs.Items.{items}
+use Rattle.listing.specs.Read.{lastNumber}
 use Rattle.lister.specs.Listed.{most, longest, listed}
-use Rattle.lister.specs.Printed.{printed}
 use Rattle.lister.specs.declared.Listed.the-variants.{Laid, Needs}
 use Rattle.lister.proofs.Printed.{printed-count}
 use Rattle.lister.proofs.Theorems.{listed-room, laid-told}
@@ -49,7 +49,7 @@ lay-always κs a r t p h = lay-room κs a r t p (omega (arith, listed-room (a .0
 -- were laid is the length of its list of items.
 pub lay-count : (κs : _) (a : _) (r : _) (t : _) → lay.Post κs a r t → (n : ℕ) → r ≡ Laid n →
     (o : Order) → length (a .0 .now) ≤ most → orderOf (a .0 .now) ≡ gives o →
-    printed (take n (t .1 .0 .now)) ≡ length (items o (a .0 .now))
+    lastNumber (take n (t .1 .0 .now)) ≡ length (items o (a .0 .now))
 lay-count κs a r t p n e o h q =
     let l = laid-told (length (listed (a .0 .now))) (length (a .1 .0 .now)) n (sym (p .0) ∙ e) in
     rw (l .0, lay-room κs a r t p (l .1) .1) (printed-count (a .0 .now) o h q)

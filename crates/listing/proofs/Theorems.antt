@@ -1,15 +1,16 @@
 -- What the definitions say: lines of a dump, and decimal digits that read back.
-use Prim.Native.Nat.{ℕ, zero, suc, _+_, _-_, _*_, _/_, _%_, _<_}
-use mathlib.Core.Path.{_≡_, refl}
+use Prim.Native.Nat.{ℕ, zero, suc, _+_, _*_, _/_, _%_, _<_}
+use mathlib.Core.Path.{_≡_, refl, _∙_}
 use mathlib.Core.Bool.{Bool, true, false}
 use mathlib.Core.List.{List, [], _∷_, _++_}
 use native.Mathlib.Omega.{arith}
 use lib.Dec.{ltb}
 use lib.IntN.{negsuc}
 use lib.ListN.{length, getD, length-append, List·getD-append}
-use borrow.Author.Tests.{ltb-true, ltb-false}
+use borrow.Author.Tests.{ne-eqb, ltb-true, ltb-false}
 use Rattle.reader.specs.declared.Cause.the-variants.{Searching, NoSync, Large, Uneven}
 use Rattle.listing.specs.Digits.{digit, decimalBy, decimal, hexDigits}
+use Rattle.listing.specs.Read.{readNext, readFrom}
 use Rattle.listing.specs.Words.{integerWord, hexWord, causeWord, dumpLine}
 use Rattle.listing.specs.declared.Label.the-variants.{Time, GroupGains, Cause}
 use Rattle.listing.proofs.Numbers.{decimal-one, decimal-more}
@@ -41,14 +42,14 @@ example-causes = refl
 
 -- ---- decimal digits read back
 
--- the number of some digits, behind one that was read
-abbrev pub readFrom : ℕ → List ℕ → ℕ
-readFrom a [] = a
-readFrom a (d ∷ l) = readFrom (a * 10 + (d - 0x30)) l
-
-read-append : (a : ℕ) (l m : List ℕ) → readFrom a (l ++ m) ≡ readFrom (readFrom a l) m
+-- bytes that are read behind others
+pub read-append : (a : ℕ) (l m : List ℕ) → readFrom a (l ++ m) ≡ readFrom (readFrom a l) m
 read-append a [] m = refl
-read-append a (d ∷ l) m = read-append (a * 10 + (d - 0x30)) l m
+read-append a (b ∷ l) m = read-append (readNext a b) l m
+
+-- a digit is neither a space nor a newline
+read-digit : (a d : ℕ) → readNext a (digit d) ≡ a * 10 + d
+read-digit a d = rw (ne-eqb (digit d) 0x20 (λ e. omega arith), ne-eqb (digit d) 0x0A (λ e. omega arith)) (omega arith)
 
 -- by the number of digits
 module _ (P : ℕ → Type 0) (one : (n : ℕ) → n < 10 → P n) (more : (n : ℕ) → 9 < n → P (n / 10) → P n) where
@@ -61,7 +62,7 @@ module _ (P : ℕ → Type 0) (one : (n : ℕ) → n < 10 → P n) (more : (n : 
   digits-fuel (suc f) n h = digits-by f n (ltb n 10) refl (λ (k : 9 < n). digits-fuel f (n / 10) (omega arith))
 
   -- what holds of one digit, and with a digit more, holds of every number
-  pub by-digits : (n : ℕ) → P n
+  by-digits : (n : ℕ) → P n
   by-digits n = digits-fuel (suc n) n (omega arith)
 
 ReadsBack : ℕ → Type 0
@@ -69,11 +70,12 @@ ReadsBack n = readFrom 0 (decimal n) ≡ n
 
 back-one : (n : ℕ) → n < 10 → ReadsBack n
 unfolding ReadsBack
-back-one n h = rw (decimal-one n h) (omega arith)
+back-one n h = rw (decimal-one n h) (read-digit 0 n ∙ omega arith)
 
 back-more : (n : ℕ) → 9 < n → ReadsBack (n / 10) → ReadsBack n
 unfolding ReadsBack
-back-more n h r = rw (decimal-more n h, read-append 0 (decimal (n / 10)) (digit (n % 10) ∷ []), r) (omega arith)
+back-more n h r =
+    rw (decimal-more n h, read-append 0 (decimal (n / 10)) (digit (n % 10) ∷ []), r) (read-digit (n / 10) (n % 10) ∙ omega arith)
 
 -- the digits of a number make the number
 pub reads-back : (n : ℕ) → readFrom 0 (decimal n) ≡ n

@@ -1,4 +1,5 @@
 pub mod Digits
+pub mod Read
 pub mod Text
 pub mod Words
 pub mod Lines

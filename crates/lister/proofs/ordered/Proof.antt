@@ -7,7 +7,7 @@ use lib.ListN.{length}
 use Rattle.reader.proofs.Rows.{items-most}
 use Rattle.listing.specs.Lines.{firstLine, lastLine, itemLines}
 use Rattle.listing.specs.Text.{shown, textOf}
-use Rattle.lister.specs.Listed.{itemsOf}
+use Rattle.lister.specs.Listed.{longestFirst, itemsOf}
 use Rattle.lister.proofs.Lengths.{first-length, last-length}
 use Rattle.lister.proofs.Laws.{text-room, text-shows, three-lay}
 use Rattle.lister.proofs.Bound.{lines-length, items-many}
@@ -20,9 +20,9 @@ first-line-requires c κs = search needs
 put-requires : tie.Need-put-requires
 put-requires c κs = (text-room _ _ (c .before .first-line .ensures), omega arith)
 
--- the first line is shown whole, and has at most 18 bytes
+-- the first line is shown whole, and is not longer than the longest
 first-shown : (c : tie.After-first-line) → let a = c .before .before .before .args in
-    (shown (c .first-line .result) ≡ firstLine (a .order) (length (a .s .now))) × (length (firstLine (a .order) (length (a .s .now))) ≤ 18)
+    (shown (c .first-line .result) ≡ firstLine (a .order) (length (a .s .now))) × (length (firstLine (a .order) (length (a .s .now))) ≤ longestFirst)
 first-shown c =
     let b = c .before .before .before in
     let n = first-length (b .args .order) (length (b .args .s .now)) (omega (arith, b .pre)) in
