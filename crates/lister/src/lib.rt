@@ -18,7 +18,7 @@ pub const MOST: usize = 65536;
 // Room for a stream: one byte more than are listed, which tells a stream that is too long.
 pub const STREAM_ROOM: usize = 65537;
 
-// The most items of a stream that is listed: reader::rows_for of MOST, as a constant's value.
+// The most items of a stream that is listed: what reader::rows_for answers for MOST.
 const ROWS: usize = 2 * (MOST / 13) + 2;
 
 // Room for a listing: 18 bytes for its first line, 35 for the line of each item and 10 for its last line. No stream has
