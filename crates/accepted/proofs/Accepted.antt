@@ -16,11 +16,12 @@ use Rattle.frame.specs.declared.Ahead.the-variants.{Chunk}
 use Rattle.frame.proofs.Frames.{chunk-shows, frames-nil}
 use Rattle.reader.specs.Items.{itemsFrom, items}
 use Rattle.reader.specs.Part.{bodyAt}
+use Rattle.reader.specs.Reading.{told, ahead}
 use Rattle.reader.specs.Step.{Step, newCursor, stepBy, stepOf, Fit}
 use Rattle.reader.specs.declared.Cursor.{Cursor}
 use Rattle.reader.proofs.Laws.{step-end, step-accepts, chunk-ends}
 use Rattle.reader.proofs.Parts.{body-within}
-use Rattle.reader.proofs.Theorems.{new-fit, step-keeps-fit, told, ahead, one}
+use Rattle.reader.proofs.Theorems.{new-fit, step-keeps-fit, one}
 use Rattle.writer.specs.Write.{writeOf, laidBy}
 use Rattle.writer.specs.Records.{Record, chunkOf, Each, Taken, Typed, writtenAll, Ran, thenNext, writeAll}
 use Rattle.writer.proofs.Laws.{taken-size, written, next-given}

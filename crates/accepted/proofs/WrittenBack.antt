@@ -21,12 +21,13 @@ use Rattle.frame.proofs.Looks.{is-chunk, is-end, ahead-by}
 use Rattle.reader.specs.Item.{Item, end, isEnd, itemSaid}
 use Rattle.reader.specs.Items.{itemsFrom, items}
 use Rattle.reader.specs.Part.{bodyAt}
+use Rattle.reader.specs.Reading.{ahead}
 use Rattle.reader.specs.Step.{Step, newCursor, stepBy, stepOf, after, Fit}
 use Rattle.reader.specs.declared.Cursor.{Cursor}
 use Rattle.reader.specs.declared.Item.the-variants as Item
 use Rattle.reader.proofs.Laws.{step-ahead, gives-other, gives-on, chunk-ends}
 use Rattle.reader.proofs.Parts.{body-within}
-use Rattle.reader.proofs.Theorems.{new-fit, step-keeps-fit, ahead, one}
+use Rattle.reader.proofs.Theorems.{new-fit, step-keeps-fit, one}
 use Rattle.writer.specs.Records.{Record, recordsOf, Each, Ran, writeAll}
 use Rattle.ending.proofs.Calls.{NewCall, new-met, StepCall}
 use Rattle.ending.proofs.Runs.{Run, run-is-step}

@@ -24,8 +24,9 @@ use Rattle.reader.specs.declared.Cursor.{Cursor}
 use Rattle.reader.proofs.Laws.{step-ahead, step-end, of-chunk, gives-on}
 use Rattle.reader.specs.Item.{Item, itemSaid}
 use Rattle.reader.specs.IsStep.{IsStep}
+use Rattle.reader.specs.Reading.{told, ahead}
 use Rattle.reader.specs.declared.Stepped.{Stepped}
-use Rattle.reader.proofs.Theorems.{step-keeps-fit, told, ahead, one, goes}
+use Rattle.reader.proofs.Theorems.{step-keeps-fit, one, goes}
 use Rattle.bench.specs.Plain.{sound, soundCount}
 use Rattle.bench.specs.Inner.Sound.{soundIn}
 

@@ -18,10 +18,11 @@ use Rattle.frame.proofs.Theorems.{search-stopped}
 use Rattle.state.specs.declared.State.{State}
 use Rattle.effect.specs.Ready.{noState}
 use Rattle.reader.specs.Items.{items}
+use Rattle.reader.specs.Reading.{reading}
 use Rattle.reader.specs.Step.{Step, cursorAt, newCursor, skips, accepts, stepOf, after, unfit}
 use Rattle.reader.specs.declared.Cursor.{Cursor}
 use Rattle.reader.proofs.Laws.{step-ahead, step-accepts, step-skips}
-use Rattle.reader.proofs.Theorems.{reading, reads, new-fit}
+use Rattle.reader.proofs.Theorems.{reads, new-fit}
 use Rattle.samples.proofs.AtCursor.{effectOf}
 use Rattle.ending.specs.Ending.{onto, givenBy, cursorBy, stepCounted, AcceptsFirstAt, lead, fromChunk, BeginsAt}
 use Rattle.ending.proofs.Moved.{step-moved, told-moved, reading-moved, after-moved}

@@ -21,7 +21,7 @@ use Rattle.frame.proofs.Theorems.{search-stopped}
 use Rattle.reader.specs.Step.{cursorAt, skips, stepOf, unfit}
 use Rattle.reader.specs.declared.Cursor.{Cursor}
 use Rattle.reader.proofs.Laws.{step-end, step-ahead, step-skips}
-use Rattle.reader.proofs.Theorems.{reading}
+use Rattle.reader.specs.Reading.{reading}
 use Rattle.ending.specs.Ending.{AcceptsFirstAt, fromChunk, BeginsAt}
 
 -- a complete chunk at q, and no other place is asked for

@@ -19,10 +19,10 @@ use Rattle.state.specs.Good.{goodState}
 use Rattle.state.specs.declared.State.{State}
 use Rattle.reader.specs.Item.{Item, isEnd, placedBy}
 use Rattle.reader.specs.Items.{Given}
+use Rattle.reader.specs.Reading.{told, reading}
 use Rattle.reader.specs.Step.{Step, refused, stepBy, stepOf, after}
 use Rattle.reader.specs.declared.Cursor.{Cursor}
 use Rattle.reader.proofs.Laws.{placed-end, placed-back}
-use Rattle.reader.proofs.Theorems.{told, reading}
 use Rattle.ending.specs.Ending.{since, onto, answerBy, givenBy, cursorBy, stepCounted}
 
 -- ---- one step

@@ -11,9 +11,10 @@ use Rattle.reader.specs.Item.{itemSaid}
 use Rattle.reader.specs.Items.{Given}
 use Rattle.reader.specs.Step.{Step, stepOf, after}
 use Rattle.reader.specs.IsStep.{IsStep}
+use Rattle.reader.specs.Reading.{told, reading}
 use Rattle.reader.specs.declared.Cursor.{Cursor}
 use Rattle.reader.specs.declared.Stepped.{Stepped}
-use Rattle.reader.proofs.Theorems.{after-suc, told, reading}
+use Rattle.reader.proofs.Theorems.{after-suc}
 use Rattle.samples.specs.Copy.{copiedSaid, layoutAt, countOf, samplesAt, filled}
 use Rattle.samples.proofs.Theorems.{copied-told}
 use Rattle.ending.specs.Ending.{since, onto, answerBy, cursorBy, stepCounted}

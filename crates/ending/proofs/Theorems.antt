@@ -11,9 +11,10 @@ use Rattle.frame.specs.Place.{shows}
 use Rattle.frame.specs.declared.At.the-variants.{Complete}
 use Rattle.frame.proofs.Theorems.{Clean, clean-beginning}
 use Rattle.reader.specs.Items.{Given, items}
+use Rattle.reader.specs.Reading.{reading}
 use Rattle.reader.specs.Step.{Step, newCursor, stepOf, after}
 use Rattle.reader.specs.declared.Cursor.{Cursor}
-use Rattle.reader.proofs.Theorems.{after-suc, reading}
+use Rattle.reader.proofs.Theorems.{after-suc}
 use Rattle.ending.specs.Ending.{since, onto, givenBy, cursorBy, stepCounted, AcceptsFirstAt, lead, fromChunk}
 use Rattle.ending.proofs.Moved.{given-back, step-back}
 use Rattle.ending.proofs.Accepted.{AsIn, as-in, first-items}

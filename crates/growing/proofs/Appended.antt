@@ -19,10 +19,11 @@ use Rattle.frame.proofs.Frames.{frames-nil, frames-cut}
 use Rattle.effect.specs.Ready.{noState}
 use Rattle.reader.specs.Item.{Item, unfinished, isChunk}
 use Rattle.reader.specs.Items.{Given, itemsFrom, items}
+use Rattle.reader.specs.Reading.{ahead}
 use Rattle.reader.specs.Step.{Step, newCursor, stepBy, stepOf, after}
 use Rattle.reader.specs.declared.Cursor.{Cursor}
 use Rattle.reader.proofs.Laws.{step-ahead}
-use Rattle.reader.proofs.Theorems.{after-suc, ahead, one}
+use Rattle.reader.proofs.Theorems.{after-suc, one}
 use Rattle.reading.specs.Ends.{Sound}
 use Rattle.reading.specs.FromNew.{FromNew}
 use Rattle.reading.proofs.FromNew.{from-new-fit}

@@ -16,22 +16,22 @@ use Rattle.reader.specs.Item.{isChunk, itemSaid}
 use Rattle.reader.specs.Items.{Given, items}
 use Rattle.reader.specs.Step.{Step, stepBy, stepOf, after}
 use Rattle.reader.specs.IsStep.{IsStep}
+use Rattle.reader.specs.Reading.{told, reading, ahead}
 use Rattle.reader.specs.declared.Cause.{Cause}
 use Rattle.reader.specs.declared.Cursor.{Cursor}
 use Rattle.reader.specs.declared.Item.the-variants.{Skipped}
 use Rattle.reader.specs.declared.Stepped.{Stepped}
 use Rattle.reader.proofs.Laws.{step-ahead}
 use Rattle.reader.proofs.Told.{item-told}
-use Rattle.reader.proofs.Theorems.{ahead, told, reading}
 use Rattle.ending.proofs.Calls.{NewCall, new-met, StepCall, StepOn, step-met}
 use Rattle.ending.proofs.Runs.{came, Run, run-after, run-is-step, runItems, run-reads}
 use Rattle.reading.specs.Ends.{Sound}
 use Rattle.reading.proofs.Next.{Next, Done, stands, new-sound}
 use Rattle.growing.specs.Settled.{settled, chunksOf}
-use Rattle.growing.specs.Held.{waits, heldBy, held}
+use Rattle.growing.specs.Held.{waits, heldBy, held, byParts}
 use Rattle.growing.proofs.Steps.{bytesAhead, aheadAt, sound-more, skipped-longer}
 use Rattle.growing.proofs.Appended.{ahead-end, ahead-cut, appended, appended-cursor}
-use Rattle.growing.proofs.Parts.{byParts, held-sound, parts-whole}
+use Rattle.growing.proofs.Parts.{held-sound, parts-whole}
 
 -- two answers that are the same
 pub record Same (a b : Stepped) : Type 0 where

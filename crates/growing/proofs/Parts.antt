@@ -17,15 +17,15 @@ use Rattle.frame.proofs.Looks.{ahead-none, stretch-ahead}
 use Rattle.frame.proofs.Frames.{gap-le}
 use Rattle.frame.proofs.More.{stretch-more, gap-more}
 use Rattle.reader.specs.Items.{Given, items}
+use Rattle.reader.specs.Reading.{ahead}
 use Rattle.reader.specs.Step.{newCursor, cursorAt, stepOf}
 use Rattle.reader.specs.declared.Cursor.{Cursor}
 use Rattle.reader.proofs.Laws.{step-ahead}
-use Rattle.reader.proofs.Theorems.{ahead}
 use Rattle.reading.specs.Ends.{Sound}
 use Rattle.reading.proofs.Next.{Next, Done, stands, new-sound}
 use Rattle.reading.proofs.Stretch.{stretch, stretch-only}
 use Rattle.growing.specs.Settled.{chunksOf}
-use Rattle.growing.specs.Held.{waits, heldBy, held}
+use Rattle.growing.specs.Held.{waits, heldBy, held, byParts}
 use Rattle.growing.proofs.Steps.{bytesAhead, aheadAt, some-chunk, some-stretch, bytes-more, sound-more, chunk-same, skip-more}
 use Rattle.growing.proofs.Appended.{ahead-end, ahead-cut, next-item, next-more, next-chunk, next-skip}
 
@@ -142,11 +142,6 @@ pub held-sound : (o : Order) (s : List ℕ) (c : Cursor) → Sound s c → Sound
 held-sound o s c h = held-fuel (length s) o s c h
 
 -- ---- any number of parts
-
--- the chunks that are given as the stream grows: those of s from c on; then, part by part, those from the cursor that was held
-unfoldable pub byParts : Order → List ℕ → Cursor → List (List ℕ) → List Given
-byParts o s c [] = chunksOf (ahead o s c)
-byParts o s c (t ∷ ts) = chunksOf (ahead o s c) ++ byParts o (s ++ t) (held o s c) ts
 
 -- Reading part by part, each time from the cursor before an unfinished end, gives the chunks of the whole.
 pub parts-whole : (ts : List (List ℕ)) (o : Order) (s : List ℕ) (c : Cursor) → Sound s c → byParts o s c ts ≡ chunksOf (ahead o (s ++ flatten ts) c)

@@ -9,10 +9,11 @@ use lib.ListN.{length, length-append, length-map}
 use borrow.Author.Tests.{ltb-true, ltb-false}
 use Rattle.num.specs.declared.Order.{Order}
 use Rattle.reader.specs.Items.{Given, items}
+use Rattle.reader.specs.Reading.{ahead}
 use Rattle.reader.specs.Rows.{rowsFor}
 use Rattle.reader.specs.Step.{newCursor, stepOf, Fit}
 use Rattle.reader.specs.declared.Cursor.{Cursor}
-use Rattle.reader.proofs.Theorems.{new-fit, step-keeps-fit, ahead, goes}
+use Rattle.reader.proofs.Theorems.{new-fit, step-keeps-fit, goes}
 use Rattle.reader.proofs.Rows.{items-most}
 use Rattle.listing.specs.Lines.{firstLine, lastLine, answerLine, itemLines, listing}
 use Rattle.lister.specs.Listed.{most, longestLine, longest, itemsOf}

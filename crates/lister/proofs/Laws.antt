@@ -18,10 +18,11 @@ use Rattle.frame.proofs.Looks.{is-end}
 use Rattle.state.specs.declared.State.{State}
 use Rattle.reader.specs.Item.{Item, isEnd}
 use Rattle.reader.specs.Items.{Given, itemsFrom}
+use Rattle.reader.specs.Reading.{told, ahead}
 use Rattle.reader.specs.Step.{newCursor, stepOf, Fit}
 use Rattle.reader.specs.declared.Cursor.{Cursor}
 use Rattle.reader.proofs.Laws.{step-ahead, gives-on}
-use Rattle.reader.proofs.Theorems.{new-fit, step-keeps-fit, told, ahead, one, goes}
+use Rattle.reader.proofs.Theorems.{new-fit, step-keeps-fit, one, goes}
 use Rattle.listing.specs.Lines.{answerLine, itemLines}
 use Rattle.listing.specs.Text.{textOf, shown}
 use Rattle.listing.specs.declared.string.Text.{Text}

@@ -8,10 +8,9 @@ use lib.Dec.{ltb}
 use lib.ListN.{length, take, drop, length-drop, drop-of-length-le}
 use lib.Seq.{length-take-le}
 use borrow.Author.Tests.{not-false, ltb-true, ltb-false}
-use Rattle.num.specs.Answer.{Answer, gives, refuses}
 use Rattle.num.specs.Choice.{pick, both}
 use Rattle.num.specs.declared.Order.{Order}
-use Rattle.frame.specs.Frames.{Frame, frames}
+use Rattle.frame.specs.Frames.{Frame}
 use Rattle.frame.specs.Frames as Frames
 use Rattle.frame.specs.Place.{shows, gap, stops}
 use Rattle.frame.specs.Ahead.{aheadOf}
@@ -27,9 +26,9 @@ use Rattle.state.specs.declared.State.{State}
 use Rattle.state.proofs.Laws.{empty-good}
 use Rattle.effect.specs.Effect.{effect}
 use Rattle.effect.proofs.Good.{effect-good}
-use Rattle.reader.specs.Item.{Item, isEnd}
 use Rattle.reader.specs.Step.{Step, newCursor, before, refused, skips, stepBy, stepOf, after, Fit}
-use Rattle.reader.specs.Items.{Given, itemsFrom, items}
+use Rattle.reader.specs.Items.{itemsFrom, items}
+use Rattle.reader.specs.Reading.{told, reading, ahead}
 use Rattle.reader.specs.declared.Cursor.{Cursor}
 use Rattle.reader.proofs.Laws.{step-end, step-ahead, chunk-ends, chunk-size}
 
@@ -75,21 +74,6 @@ unfolding stepOf
 step-keeps-fit o s c h = rw h (fit-past o (drop (c .place) s) c (ltb (length s) (c .place)) h)
 
 -- ---- stepping from a new cursor to End gives the items
-
--- the items that steps give, up to End or a refusal, at most as many as there is fuel
-abbrev pub told : Answer Item → State → List Given → List Given
-told (refuses n) shown rest = []
-told (gives i) shown rest = pick (isEnd i) [] (record { item = i; shown = shown } ∷ rest)
-
-unfoldable pub reading : ℕ → Order → List ℕ → Cursor → List Given
-reading zero o s c = []
-reading (suc f) o s c =
-    let t : Step = stepOf o s c in
-    told (t .item) (t .shown) (reading f o s (t .cursor))
-
--- what a cursor is to give: the frames ahead of it, read as it stands
-abbrev pub ahead : Order → List ℕ → Cursor → List Given
-ahead o s c = itemsFrom o (c .place) (c .«in_step») (c .state) (frames o (drop (c .place) s))
 
 -- one step, by what stands there, and then what is ahead of the cursor that it leaves
 module _ (o : Order) (s : List ℕ) (c : Cursor) (h : c .place < length s) where

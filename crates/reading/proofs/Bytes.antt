@@ -11,9 +11,10 @@ use borrow.Author.Tests.{ltb-true, ltb-false}
 use Rattle.num.specs.declared.Order.{Order}
 use Rattle.reader.specs.Item.{Item}
 use Rattle.reader.specs.Items.{items}
+use Rattle.reader.specs.Reading.{ahead}
 use Rattle.reader.specs.Step.{newCursor, after}
 use Rattle.reader.specs.declared.Cursor.{Cursor}
-use Rattle.reader.proofs.Theorems.{after-suc, ahead}
+use Rattle.reader.proofs.Theorems.{after-suc}
 use Rattle.reading.specs.Bytes.{Between, Covers, Spans, ExactlyOne}
 use Rattle.reading.specs.Ends.{Sound, givenAt}
 use Rattle.reading.proofs.Ends.{each, ends}

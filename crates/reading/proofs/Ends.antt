@@ -11,9 +11,9 @@ use Rattle.num.specs.Answer.{Answer, gives}
 use Rattle.num.specs.declared.Order.{Order}
 use Rattle.reader.specs.Item.{Item, end, isEnd}
 use Rattle.reader.specs.Items.{Given, items}
+use Rattle.reader.specs.Reading.{ahead}
 use Rattle.reader.specs.Step.{Step, newCursor, stepOf, after}
 use Rattle.reader.specs.declared.Cursor.{Cursor}
-use Rattle.reader.proofs.Theorems.{ahead}
 use Rattle.reading.specs.Bytes.{Spans}
 use Rattle.reading.specs.Ends.{Sound, stepAfter, givenAt, GivesItem, GivesEnd, GivesAll}
 use Rattle.reading.proofs.Next.{Next, Done, stands, new-sound}

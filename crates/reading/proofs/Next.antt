@@ -15,10 +15,11 @@ use Rattle.frame.specs.declared.Ahead.the-variants.{End, Stretch, Cut, Chunk}
 use Rattle.frame.proofs.Looks.{is-end}
 use Rattle.frame.proofs.Frames.{frames-nil}
 use Rattle.reader.specs.Items.{Given, itemsFrom}
+use Rattle.reader.specs.Reading.{ahead}
 use Rattle.reader.specs.Step.{Step, newCursor, stepBy, stepOf, Fit}
 use Rattle.reader.specs.declared.Cursor.{Cursor}
 use Rattle.reader.proofs.Laws.{step-ahead, step-end}
-use Rattle.reader.proofs.Theorems.{new-fit, step-keeps-fit, ahead, one, goes}
+use Rattle.reader.proofs.Theorems.{new-fit, step-keeps-fit, one, goes}
 use Rattle.reading.specs.Bytes.{begins, extent, Spans}
 use Rattle.reading.specs.Ends.{Sound, GivesItem, endStep}
 

@@ -8,11 +8,11 @@ use lib.ListN.{length}
 use Rattle.num.specs.declared.Order.{Order}
 use Rattle.reader.specs.Item.{itemSaid}
 use Rattle.reader.specs.Items.{Given, items}
+use Rattle.reader.specs.Reading.{ahead}
 use Rattle.reader.specs.Step.{Step, newCursor, after}
 use Rattle.reader.specs.declared.Cursor.{Cursor}
 use Rattle.reader.specs.declared.Item.the-variants.{End}
 use Rattle.reader.proofs.Told.{item-told}
-use Rattle.reader.proofs.Theorems.{ahead}
 use Rattle.ending.proofs.Calls.{NewCall, new-met, StepCall}
 use Rattle.ending.proofs.Runs.{came, Run, run-after, run-is-step}
 use Rattle.reading.specs.Bytes.{Between, Spans, ExactlyOne}

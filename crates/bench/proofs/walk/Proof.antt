@@ -7,8 +7,9 @@ use native.Mathlib.Omega.{arith}
 use lib.ListN.{length}
 use borrow.Author.Needs.{needs}
 use Rattle.reader.specs.Items.{items}
+use Rattle.reader.specs.Reading.{ahead}
 use Rattle.reader.specs.Step.{newCursor, after, Fit}
-use Rattle.reader.proofs.Theorems.{new-fit, ahead}
+use Rattle.reader.proofs.Theorems.{new-fit}
 use Rattle.bench.specs.Plain.{soundCount}
 use Rattle.bench.proofs.Laws.{Turn, turn, sound-end, goes-on, stops, stays, passed}
 use Rattle.bench.proofs.walk.Statement.{statement}
