@@ -1,9 +1,9 @@
 -- Laws of lists of up to 16 values: places filled one by one.
 use Prim.Native.Nat.{ℕ, zero, suc, _+_, _<_, _≤_}
-use mathlib.Core.Path.{_≡_, refl, ap}
+use mathlib.Core.Path.{_≡_, refl}
 use mathlib.Core.List.{List}
 use native.Mathlib.Omega.{arith}
-use lib.ListN.{length, set, replicate}
+use lib.ListN.{set, replicate}
 use borrow.Author.Tests.{lt-ltb, le-ltb}
 use Rattle.body.specs.Lists.{upto}
 

@@ -1,7 +1,7 @@
 -- The table of kinds: for each kind how its body is read, and what it does to the state. Whatever differs by kind
 -- follows from its row.
 use Prim.Native.Nat.{ℕ}
-use mathlib.Core.Bool.{Bool, true, false}
+use mathlib.Core.Bool.{Bool, false}
 use mathlib.Core.List.{List}
 use lib.Dec.{eqb}
 use Rattle.num.specs.Answer.{Answer}

@@ -12,10 +12,9 @@ use mir.Val.{SFits}
 use Rattle.num.specs.Answer.{gives}
 use Rattle.num.specs.declared.Order.{Order}
 use Rattle.num.proofs.Laws.{Bytes}
-use Rattle.body.specs.Table.{Slot, packing, rate, band, groupBand, centre, fullScale, totalGain, floatScale, group, frequencies, gains, Value, sets, leaves, setBy}
+use Rattle.body.specs.Table.{Slot, packing, rate, band, groupBand, centre, fullScale, totalGain, floatScale, group, frequencies, gains, Value, setBy}
 use Rattle.body.specs.Verdict.{verdict}
 use Rattle.body.specs.declared.kinds.Kind.{Kind}
-use Rattle.state.specs.Good.{isOffset}
 use Rattle.state.specs.State.{valueIn}
 use Rattle.state.specs.declared.State.{State}
 use Rattle.effect.specs.Effect.{effect}

@@ -1,7 +1,6 @@
 -- A chunk that is ready is ready again, as it was, with the state that it showed.
 use mathlib.Core.Path.{_≡_}
 use mathlib.Core.List.{List}
-use mathlib.Core.Bool.{Bool}
 use native.Mathlib.Omega.{arith}
 use Prim.Native.Nat.{ℕ}
 use Rattle.num.specs.Answer.{Answer}

@@ -1,9 +1,8 @@
 -- Copying what a step gave is copying at the cursor that the step was made from.
 use Prim.Native.Nat.{ℕ, _-_}
-use mathlib.Core.Path.{_≡_, refl, sym, ap, _∙_}
+use mathlib.Core.Path.{_≡_, sym, ap, _∙_}
 use mathlib.Core.Bool.{Bool, true, false}
 use mathlib.Core.List.{List, []}
-use native.Mathlib.Omega.{arith}
 use lib.IntN.{ℤ}
 use lib.ListN.{length, take, drop}
 use contract.Lifetimes.{Lfts}
@@ -25,7 +24,7 @@ use Rattle.samples.specs.Copy.{copiedSaid, layoutIn, layoutBy, layoutAt,
 use Rattle.samples.specs.Given.{isThere, layoutThere, layoutGiven, countGiven, placeGiven, samplesGiven}
 use Rattle.samples.specs.declared.Copied.{Copied}
 use Rattle.samples.proofs.Again.{ready-again}
-use Rattle.samples.proofs.AtCursor.{effectOf, stands}
+use Rattle.samples.proofs.AtCursor.{stands}
 use Rattle.samples.proofs.There.{own-data, own-that, pick-same}
 use Rattle.samples.proofs.Theorems.{copied-told}
 use Rattle.samples.proofs.patterns.patterns_at.Reads as patterns_at

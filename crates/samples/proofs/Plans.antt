@@ -10,7 +10,6 @@ use Rattle.num.specs.Answer.{Answer, gives, refuses}
 use Rattle.num.specs.declared.Order.{Order}
 use Rattle.frame.specs.Ahead.{isChunk}
 use Rattle.frame.specs.declared.Ahead.{Ahead}
-use Rattle.frame.specs.declared.Ahead.the-variants.{Chunk}
 use Rattle.frame.proofs.Looks.{ahead-by}
 use Rattle.body.specs.Kind.{kindOf}
 use Rattle.body.specs.Table.{shaped}
@@ -25,7 +24,7 @@ use Rattle.state.specs.State.{emptied}
 use Rattle.state.specs.declared.State.{State}
 use Rattle.samples.specs.Layout.{layout}
 use Rattle.samples.specs.Copy.{layoutIn, layoutBy}
-use Rattle.samples.specs.Inner.Plan.{numberBytes, lies, part, Plans, Tells, Sound}
+use Rattle.samples.specs.Inner.Plan.{numberBytes, lies, Plans, Tells, Sound}
 use Rattle.samples.specs.declared.Layout.{Layout}
 use Rattle.samples.specs.declared.Planned.{Planned}
 use Rattle.samples.specs.declared.Planned.the-variants.{Go, Refused}

@@ -21,7 +21,7 @@ use Rattle.frame.specs.declared.Ahead.{Ahead}
 use Rattle.frame.specs.declared.Ahead.the-variants.{Chunk}
 use Rattle.frame.proofs.Looks.{ahead-by, other-ahead}
 use Rattle.body.specs.declared.sampled.Data.{Data}
-use Rattle.effect.specs.Says.{Says, ready, verdictSaid}
+use Rattle.effect.specs.Says.{verdictSaid}
 use Rattle.effect.specs.declared.Verdict.{Verdict}
 use Rattle.effect.specs.declared.Verdict.the-variants.{Good, Unknown, Malformed, NotCovered, Waits, Ready}
 use Rattle.effect.proofs.Verdict as verdict

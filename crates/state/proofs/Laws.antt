@@ -2,13 +2,13 @@
 -- values that are allowed.
 use Prim.Native.Nat.{ℕ, zero, suc, _<_, _≤_}
 use mathlib.Core.Path.{_≡_, refl, sym, _∙_}
-use mathlib.Core.Bool.{Bool, true, false, _&&_}
+use mathlib.Core.Bool.{Bool, true, false}
 use lib.Dec.{ltb}
-use lib.Ieee.{Float, ofBits}
-use lib.IntN.{ℤ, pos}
+use lib.Ieee.{ofBits}
+use lib.IntN.{pos}
 use lib.Signed.{leZ}
 use borrow.Author.Tests.{le-leb, ltb-true}
-use Rattle.num.specs.Choice.{pick, both}
+use Rattle.num.specs.Choice.{pick}
 use Rattle.num.proofs.Tests.{both-true}
 use Rattle.body.specs.Levels.{isFinite}
 use Rattle.body.specs.Lists.{upto, sixteen}

@@ -1,5 +1,4 @@
 -- Laws of the slots: what stands in each after one was set, and that the values are what their slots hold.
-use Prim.Native.Nat.{ℕ}
 use mathlib.Core.Path.{_≡_, refl, ap, _∙_}
 use mathlib.Core.Bool.{Bool, true, false}
 use Rattle.num.specs.Choice.{pick}

@@ -1,6 +1,4 @@
 -- A chunk counts by its verdict, any other item not.
-use Prim.Native.Nat.{ℕ}
-use mathlib.Core.Path.{refl}
 use mathlib.Core.Logic.{⊎-elim}
 use borrow.Author.Needs.{needs}
 use Rattle.reader.proofs.Laws.{no-chunk-told, other-item}

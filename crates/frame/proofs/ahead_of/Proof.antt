@@ -1,9 +1,8 @@
 -- Past the end there is no byte; else the case follows from what stands at the place.
 use mathlib.Core.Path.{_≡_, sym, ap, _∙_}
 use native.Mathlib.Omega.{arith}
-use lib.ListN.{length, drop, length-drop}
+use lib.ListN.{drop, length-drop}
 use borrow.Author.Needs.{needs}
-use Rattle.frame.specs.Place.{shows}
 use Rattle.frame.specs.Ahead.{aheadBy, aheadOf}
 use Rattle.frame.proofs.Looks.{ahead-at, ahead-none}
 use Rattle.frame.proofs.ahead_of.Statement.{statement}

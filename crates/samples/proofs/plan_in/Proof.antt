@@ -1,5 +1,5 @@
 -- The layout goes with the places between which the samples stand.
-use mathlib.Core.Path.{_≡_, refl, sym, _∙_}
+use mathlib.Core.Path.{_≡_, refl, sym}
 use borrow.Author.Needs.{needs}
 use Rattle.body.specs.Table.{shaped}
 use Rattle.samples.specs.Layout.{layout}

@@ -1,5 +1,5 @@
 -- The value that is put into the state is the one that was read, or its absence.
-use mathlib.Core.Path.{ap, _∙_}
+use mathlib.Core.Path.{_∙_}
 use Rattle.body.specs.Groups.{giqp}
 use Rattle.body.specs.Table.{group}
 use Rattle.effect.specs.Effect.{effect}

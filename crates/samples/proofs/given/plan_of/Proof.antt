@@ -3,11 +3,10 @@ use Prim.Native.Nat.{_+_, _≤_}
 use mathlib.Core.Bool.{true, false}
 use mathlib.Core.Path.{_≡_, refl, sym, ap, _∙_}
 use native.Mathlib.Omega.{arith}
-use lib.ListN.{length, take, drop}
+use lib.ListN.{length, drop}
 use borrow.Author.Needs.{needs}
 use borrow.Author.Tests.{not-true, not-false}
 use Rattle.num.specs.Answer.{gives}
-use Rattle.num.proofs.Tests.{both-false}
 use Rattle.frame.specs.Ahead.{aheadOf}
 use Rattle.frame.proofs.Looks.{is-chunk}
 use Rattle.effect.specs.Says.{ready}

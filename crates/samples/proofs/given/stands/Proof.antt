@@ -1,5 +1,5 @@
 -- A chunk, of this type and size.
-use mathlib.Core.Path.{sym, _∙_}
+use mathlib.Core.Path.{sym}
 use lib.Dec.{eqb}
 use borrow.Author.Needs.{needs}
 use Rattle.num.specs.Choice.{both}

@@ -1,5 +1,4 @@
 -- The part of the stream that is planned is there.
-use mathlib.Core.Path.{_≡_}
 use native.Mathlib.Omega.{arith}
 use borrow.Author.Needs.{needs}
 use Rattle.samples.specs.Inner.Plan.{Sound}
