@@ -17,8 +17,8 @@ use Rattle.frame.proofs.Frames.{complete, first-takes, width-complete, 
 use Rattle.frame.proofs.Theorems.{search-stopped}
 
 module _ (o : Order) where
-  -- Some bytes may have n frames: two for each thirteen bytes, one more where one byte is left over, and two more where more are.
-  -- Where a search stops at the first byte, it is one more at most.
+  -- n frames are not too many for the bytes l: at most 2·k for 13·k bytes, one frame more for one byte more, and two frames more for
+  -- up to twelve bytes more, or only one where a search stops at the first byte
   pub record Rows (l : List ℕ) (n : ℕ) : Type 0 where
     pub none : (k : ℕ) → length l ≤ 13 * k → n ≤ 2 * k
     pub one : (k : ℕ) → length l ≤ 13 * k + 1 → n ≤ 2 * k + 1
@@ -80,6 +80,6 @@ module _ (o : Order) where
       let k = first-takes o x l .some in
       rows-cons x l (length (framesBy f o (drop w (x ∷ l)))) (shows o (x ∷ l)) refl (rows-by f (drop w (x ∷ l)) (omega (arith, length-drop w (x ∷ l))))
 
-  -- so many may a stream have
+  -- the frames of a stream are not too many for it
   pub rows : (s : List ℕ) → Rows s (length (frames o s))
   rows s = rows-by (length s) s (omega arith)

@@ -13,10 +13,10 @@ use Rattle.reader.specs.Rows.{rowsFor}
 use Rattle.reader.proofs.Theorems.{items-length}
 
 module _ (o : Order) (s : List ℕ) where
-  -- an item for each frame
+  -- there is an item for each frame, so the items are not too many either
   pub item-rows : Rows o s (length (items o s))
   item-rows = rw (items-length o 0 false noState (frames o s)) (rows o s)
 
-  -- A stream of n bytes, in either order, has at most 2·k + 2 items, where k is n / 13, rounded down.
+  -- A table of so many rows has one for each item of the stream, in either order.
   pub items-most : length (items o s) ≤ rowsFor (length s)
   items-most = item-rows .more (length s / 13) (omega arith)

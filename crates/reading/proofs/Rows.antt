@@ -1,5 +1,5 @@
--- A table of as many rows as rows_for says has room for the items of a stream: of any calls that meet the promises of rows_for, of
--- count, and of Cursor::new and Cursor::step.
+-- A table of as many rows as rows_for says has a row for each item: of any calls that meet the promises of rows_for, of count, and of
+-- Cursor::new and Cursor::step.
 use Prim.Native.Nat.{ℕ, _%_, _≤_, _<_}
 use mathlib.Core.Path.{_≡_, ap}
 use mathlib.Core.List.{List}
