@@ -106,7 +106,7 @@ pub fn lay(s: &[u8], out: &mut [u8]) -> Listed
     ensures said { λ r. ⌜ r ≡ laidIn (length (listed (now (s .entry)))) (length (now (out .entry))) ⌝ }
     ensures left { λ _. ⌜ now (out .exit) ≡ overlaid (now (out .entry)) 0 (listed (now (s .entry))) ⌝ }
 {
-    // Only for a shorter slice the listing has to be measured.
+    // Where every listing has room, nothing has to be measured.
     if ROOM <= out.len() {
         return Listed::Laid(whole(s, out));
     }

@@ -341,7 +341,8 @@ pub fn count(order: Order, s: &[u8]) -> usize
     n
 }
 
-// How many rows a table needs for the items of any stream of so many bytes, in either order: no such stream has more items.
+// How many rows a table needs for the items of any stream of so many bytes: two for each whole thirteen bytes, and two
+// more. No such stream has more items, in either order.
 pub fn rows_for(bytes: usize) -> usize
     ensures { λ r. ⌜ r ≡ rowsFor bytes ⌝ }
 {
