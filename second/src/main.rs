@@ -7,9 +7,10 @@ use std::path::Path;
 use std::process::ExitCode;
 
 use second::list::MOST_BYTES;
+use second::rows::fullest;
 use second::trials::Met;
 use second::verdicts::{Pair, Verdicts};
-use second::{dump, examples, list, make, pack, recordings, trials, utf8};
+use second::{dump, examples, list, make, pack, recordings, trials, utf8, Order};
 
 const USAGE: &str = "usage: second list FILE
        second dump FILE
@@ -21,6 +22,7 @@ const USAGE: &str = "usage: second list FILE
        second verdicts FILE...
        second samples DIR
        second sized BYTES
+       second fullest BYTES
        second streams SEED COUNT MOST
        second trials FILE
        second met FILE
@@ -58,6 +60,7 @@ fn run(words: &[&str]) -> Result<ExitCode, String> {
             }
             print(&recordings::sized(bytes))
         }
+        ["fullest", bytes] => print(&fullest(Order::Little, parse_number(bytes)? as usize)),
         ["streams", seed, count, most] => {
             let (seed, count, most) = (
                 parse_number(seed)?,

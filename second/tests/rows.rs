@@ -2,7 +2,7 @@
 //! stream of a few pieces, and streams with as many items as there can be.
 
 use second::list::list;
-use second::rows::rows_for;
+use second::rows::{fullest, rows_for};
 use second::{Order, Reader};
 
 const ORDERS: [Order; 2] = [Order::Big, Order::Little];
@@ -88,14 +88,6 @@ fn every_stream_of_few_pieces() {
             assert_eq!(largest[bytes], rows(bytes));
         }
     }
-}
-
-/// A byte that is skipped and a chunk without a body, in turn, cut to length.
-fn fullest(order: Order, bytes: usize) -> Vec<u8> {
-    let mut turn = vec![0];
-    turn.extend(order.sync());
-    turn.extend([0; 8]);
-    turn.into_iter().cycle().take(bytes).collect()
 }
 
 #[test]
