@@ -17,9 +17,9 @@ use mir.Syntax.{w32, w64}
 use mir.Val.{SFits, ofZ}
 use Rattle.num.specs.Answer.{Answer, gives, refuses}
 use Rattle.num.specs.Choice.{pick, both}
-use Rattle.num.specs.Number.{digits, bytesOf}
+use Rattle.num.specs.Number.{bytesOf}
 use Rattle.num.specs.declared.Order.{Order}
-use Rattle.num.proofs.Laws.{Bytes, cons-bytes, least-bytes}
+use Rattle.num.proofs.Laws.{Bytes, append-bytes, number-bytes}
 use Rattle.num.proofs.Tests.{both-true}
 use Rattle.body.specs.Check as check
 use Rattle.body.specs.Check.{allowed, orElse}
@@ -46,19 +46,11 @@ use Rattle.lay.specs.Runs.{runOf}
 use Rattle.lay.specs.Numbers.{int32, int64}
 use Rattle.typed.specs.Bodies.{float32}
 use Rattle.typed.specs.Groups.{atMost, packingBody, hertzBody, gainsBody}
-use Rattle.lay.proofs.Stored.{digits-bytes}
 use Rattle.typed.proofs.Groups.{zero-is, plus-zero-is, packing-back, hertz-back, gains-back}
 use Rattle.typed.proofs.Numbers.{siqp-back, at-least-back, cf-back, bwof-back, dbfs-back, dbtg-back, ffs-back}
 use Rattle.claims.specs.Allowed.{isPresent, Fitting, Left}
 
 -- ---- the bodies are bytes
-
-number-bytes : (o : Order) (k n : ℕ) → Bytes (bytesOf o k n)
-number-bytes o k n = least-bytes o (digits k n) (digits-bytes k n)
-
-append-bytes : (l m : List ℕ) → Bytes l → Bytes m → Bytes (l ++ m)
-append-bytes [] m g h = h
-append-bytes (x ∷ l) m g h = cons-bytes (l ++ m) (g 0) (append-bytes l m (λ i. g (suc i)) h)
 
 module _ (o : Order) where
   run-bytes : {A : Type 0} (w : ℕ) (pattern : A → ℕ) (xs : List A) → Bytes (runOf (λ x. bytesOf o w (pattern x)) xs)

@@ -1,15 +1,15 @@
 -- Laws of a number's bytes stored one by one, and of a number turned to an order.
-use Prim.Native.Nat.{ℕ, zero, suc, _+_, _/_, _≤_}
+use Prim.Native.Nat.{ℕ, _+_, _≤_}
 use mathlib.Core.Path.{_≡_, sym, ap, _∙_}
 use mathlib.Core.List.{List, [], _∷_}
 use native.Mathlib.Omega.{arith}
 use native.Mathlib.Numerals.{add-one}
 use lib.ListN.{length, set, length-append, length-set}
 use lib.Seq.{set-split}
-use Rattle.num.specs.Number.{unsigned, digits, bytesOf}
+use Rattle.num.specs.Number.{unsigned, bytesOf}
 use Rattle.num.specs.declared.Order.{Order}
 use Rattle.num.specs.declared.Order.the-variants.{Little}
-use Rattle.num.proofs.Laws.{Bytes, cons-bytes, elems, all-elems, least-bytes, bytes-length, written-read}
+use Rattle.num.proofs.Laws.{elems, all-elems, number-bytes, bytes-length, written-read}
 use Rattle.lay.specs.Splice.{splice}
 use Rattle.lay.proofs.Splice.{splice-nothing, splice-splice}
 
@@ -36,14 +36,9 @@ stored-all k d at l e h =
     let z : at + 0 ≡ at = omega arith in
     stored-is d at 0 (elems 0 0 k l) (omega arith) ∙ rw (q, z)
 
--- the digits of a number are bytes
-pub digits-bytes : (k n : ℕ) → Bytes (digits k n)
-digits-bytes zero n i = record { fits = omega arith }
-digits-bytes (suc k) n i = cons-bytes (digits k (n / 256)) (record { fits = omega arith }) (digits-bytes k (n / 256)) i
-
 -- the number that the little bytes of x are in an order has the bytes of x in that order as its own little bytes
 pub turned-bytes : (o : Order) (k x : ℕ) → bytesOf Little k (unsigned o (bytesOf Little k x)) ≡ bytesOf o k x
 turned-bytes o k x =
     let l = bytesOf o k x in
     let n : length l ≡ k = bytes-length o k x in
-    rw n at (written-read Little l (least-bytes o (digits k x) (digits-bytes k x)))
+    rw n at (written-read Little l (number-bytes o k x))

@@ -2,7 +2,7 @@
 use Prim.Native.Nat.{ℕ, zero, suc, _+_, _-_, _*_, _/_, _%_, _^_, _≤_, _<_}
 use mathlib.Core.Path.{_≡_, refl, sym, ap, _∙_}
 use mathlib.Core.Bool.{true, false}
-use mathlib.Core.List.{List, [], _∷_, reverse, reverseAux, reverse-reverse}
+use mathlib.Core.List.{List, [], _∷_, _++_, reverse, reverseAux, reverse-reverse}
 use native.Mathlib.Omega.{arith}
 use native.Mathlib.Nat.{pow-succ', add-zero}
 use borrow.Author.Tests.{ltb-true, le-leb, lt-leb}
@@ -49,6 +49,10 @@ pub cons-bytes : {x : ℕ} (l : List ℕ) → Fits w8 x → Bytes l → Bytes (x
 cons-bytes l f g zero = f
 cons-bytes l f g (suc i) = g i
 
+pub append-bytes : (l m : List ℕ) → Bytes l → Bytes m → Bytes (l ++ m)
+append-bytes [] m g h = h
+append-bytes (x ∷ l) m g h = cons-bytes (l ++ m) (g 0) (append-bytes l m (λ i. g (suc i)) h)
+
 aux-bytes : (l r : List ℕ) → Bytes l → Bytes r → Bytes (reverseAux l r)
 aux-bytes [] r g h = h
 aux-bytes (x ∷ l) r g h = aux-bytes l (x ∷ r) (λ i. g (suc i)) (cons-bytes r (g 0) h)
@@ -56,6 +60,14 @@ aux-bytes (x ∷ l) r g h = aux-bytes l (x ∷ r) (λ i. g (suc i)) (cons-bytes 
 pub least-bytes : (o : Order) (l : List ℕ) → Bytes l → Bytes (leastFirst o l)
 least-bytes Big l g = aux-bytes l [] g (λ i. record { fits = omega arith })
 least-bytes Little l g = g
+
+-- a number's digits are bytes, in either order
+digits-bytes : (k n : ℕ) → Bytes (digits k n)
+digits-bytes zero n i = record { fits = omega arith }
+digits-bytes (suc k) n i = cons-bytes (digits k (n / 256)) (record { fits = omega arith }) (digits-bytes k (n / 256)) i
+
+pub number-bytes : (o : Order) (k n : ℕ) → Bytes (bytesOf o k n)
+number-bytes o k n = least-bytes o (digits k n) (digits-bytes k n)
 
 pub digits-length : (k n : ℕ) → length (digits k n) ≡ k
 digits-length zero n = refl
