@@ -18,10 +18,10 @@ use Rattle.frame.specs.declared.Found.the-variants.{Place}
 use Rattle.frame.proofs.Laws.{gap-stop, search-here, search-at}
 use Rattle.frame.proofs.Frames.{gap-le}
 use Rattle.frame.proofs.Theorems.{search-stopped}
+use Rattle.reader.specs.Reading.{reading}
 use Rattle.reader.specs.Step.{cursorAt, skips, stepOf, unfit}
 use Rattle.reader.specs.declared.Cursor.{Cursor}
 use Rattle.reader.proofs.Laws.{step-end, step-ahead, step-skips}
-use Rattle.reader.specs.Reading.{reading}
 use Rattle.ending.specs.Ending.{AcceptsFirstAt, fromChunk, BeginsAt}
 
 -- a complete chunk at q, and no other place is asked for

@@ -1,5 +1,5 @@
--- When one to three bytes are an unfinished end: where they are the first bytes of the sync word. So what is left of a chunk that
--- breaks off within its header is one.
+-- When one to three bytes are an unfinished end: where they are the first bytes of the sync word. And that a chunk which breaks off
+-- within its header is an unfinished end, however few of its bytes are there.
 use Prim.Native.Nat.{ℕ, _+_, _-_, _≤_, _<_}
 use mathlib.Core.Path.{_≡_, refl, ap, sym, _∙_}
 use mathlib.Core.Bool.{Bool, true, false}

@@ -9,11 +9,11 @@ use lib.Seq.{length-take-le, drop-at, drop-length}
 use Rattle.num.specs.Number.{bytesOf}
 use Rattle.num.specs.declared.Order.{Order}
 use Rattle.num.specs.declared.Order.the-variants.{Big, Little}
-use Rattle.num.proofs.Laws.{bytes-length}
+use Rattle.num.proofs.Laws.{Bytes, cons-bytes, append-bytes, number-bytes, bytes-length}
 use Rattle.frame.specs.declared.At.the-variants.{Unfinished, Complete}
-use Rattle.frame.specs.Place.{starts, shows, stops, gap}
+use Rattle.frame.specs.Place.{syncBytes, starts, shows, stops, gap}
 use Rattle.frame.specs.Frames.{chunkBytes, width, first, framesBy, frames}
-use Rattle.frame.proofs.Laws.{none-passes, gap-pass, gap-stop}
+use Rattle.frame.proofs.Laws.{take-bytes, none-passes, gap-pass, gap-stop}
 use Rattle.frame.proofs.Frames.{frames-cons, frames-nil, width-skip, frames-chunk, frames-cut, chunk-shows}
 use Rattle.frame.proofs.Short.{header-cut}
 use Rattle.body.specs.Kind.{known, kindIn, kindOf}
@@ -42,6 +42,7 @@ module _ (o : Order) where
       let w : width (first o (0 ∷ l)) ≡ 1 = width-skip o (0 ∷ l) h ∙ gap-pass o 0 l h ∙ rw g in
       ap length (frames-cons o 0 l) ∙ rw w
 
+  -- a chunk without a body has twelve bytes
   bare-length : length (chunkBytes o 0 []) ≡ 12
   bare-length = simp (length-append, bytes-length) refl
 
@@ -64,7 +65,7 @@ module _ (o : Order) where
   round-begun m some few =
       let t = take m (chunkBytes o 0 []) in
       let n : length t ≡ m = length-take-le m (chunkBytes o 0 []) (omega (arith, bare-length)) in
-      let e : shows o t ≡ Unfinished = header-cut o (bytesOf o 4 0 ++ (bytesOf o 4 0 ++ [])) m some few (omega (arith, bare-length)) in
+      let e : shows o t ≡ Unfinished = header-cut o _ m some few (omega (arith, bare-length)) in
       let z : 0 + length t ≡ length t = omega arith in
       let f : length (frames o t) ≡ 1 = ap length (frames-cut o t 0 (omega arith) e) ∙ rw (z, drop-length t, frames-nil o) in
       zero-skipped t (gap-stop o t (rw e)) ∙ ap suc f
@@ -80,25 +81,40 @@ module _ (o : Order) where
   rounds-length zero l = omega arith
   rounds-length (suc k) l = omega (arith, length-append (round o) (rounds o k l), bare-length, rounds-length k l)
 
-  -- The fullest stream has n bytes,
+  -- The fullest stream of n bytes has n elements,
   pub fullest-length : (n : ℕ) → length (fullest o n) ≡ n
   fullest-length n =
       omega (arith, rounds-length (n / 13) (take (n % 13) (round o)), length-take-le (n % 13) (round o) (omega (arith, bare-length)))
 
-  -- and the most items:
+  round-bytes : Bytes (round o)
+  round-bytes =
+      let none : Bytes [] = λ i. record { fits = omega arith } in
+      let size = append-bytes (bytesOf o 4 0) [] (number-bytes o 4 0) none in
+      cons-bytes (chunkBytes o 0 []) (record { fits = omega arith })
+      (append-bytes (syncBytes o) _ (number-bytes o 4 0xA1B2C3D4) (append-bytes (bytesOf o 4 0) _ (number-bytes o 4 0) size))
+
+  rounds-bytes : (k : ℕ) (l : List ℕ) → Bytes l → Bytes (rounds o k l)
+  rounds-bytes zero l h = h
+  rounds-bytes (suc k) l h = append-bytes (round o) (rounds o k l) round-bytes (rounds-bytes k l h)
+
+  -- each of them a byte.
+  pub fullest-bytes : (n : ℕ) → Bytes (fullest o n)
+  fullest-bytes n = rounds-bytes (n / 13) (take (n % 13) (round o)) (take-bytes (n % 13) (round o) round-bytes)
+
+  -- It has as many items as mostItems says.
   pub fullest-items : (n : ℕ) → length (items o (fullest o n)) ≡ mostItems n
   fullest-items n =
       let l = take (n % 13) (round o) in
       items-length o 0 false noState (frames o (fullest o n)) ∙ rounds-two (n / 13) l ∙ ap (λ (m : ℕ). 2 * (n / 13) + m) (left-count (n % 13) (omega arith))
 
-  -- no stream, in either order, has more than these for its length.
+  -- No stream, in either order, has more items than mostItems says for its length.
   pub never-more : (s : List ℕ) → length (items o s) ≤ mostItems (length s)
   never-more s =
       let n = length s in
       let r = item-rows o s in
       omega (arith, r .none ((n + 12) / 13) (omega arith), r .one ((n + 11) / 13) (omega arith), r .more (n / 13) (omega arith))
 
-  -- Where the division of n by 13 leaves 2 or more, they are as many as a table for n bytes has rows.
+  -- Where the division of n by 13 leaves 2 or more, the fullest stream has an item for each row of a table for n bytes.
   pub bound-met : (n : ℕ) → 2 ≤ n % 13 → length (items o (fullest o n)) ≡ rowsFor n
   bound-met n h = fullest-items n ∙ omega arith
 

@@ -34,15 +34,15 @@ module _ (rows : RowsCall) where
   pub rows-enough : (o : Order) (s : List ℕ) → length s ≡ rows .args .0 → length (items o s) ≤ rows .result
   rows-enough o s e = omega (arith, items-most o s, ap rowsFor e, rows-met)
 
-  -- Where the division by 13 leaves 2 or more, a stream of so many bytes has just so many.
+  -- Where the division of the bytes by 13 leaves 2 or more, the fullest stream of so many bytes has an item for each row.
   pub rows-needed : (o : Order) → 2 ≤ rows .args .0 % 13 → length (items o (fullest o (rows .args .0))) ≡ rows .result
   rows-needed o h = omega (arith, bound-met o (rows .args .0) h, rows-met)
 
-  -- A call of count answers no more.
+  -- A call of count on a stream of so many bytes answers no more than the rows.
   pub rows-counted : (count : CountCall) → length (count .args .1 .0 .now) ≡ rows .args .0 → count .result ≤ rows .result
   rows-counted count e = omega (arith, rows-enough (count .args .0) (count .args .1 .0 .now) e, count .met)
 
-  -- Steps from a new cursor answer End at the latest behind the last row.
+  -- Steps from a new cursor through a stream of so many bytes answer End at the latest behind the last row.
   pub rows-end : (o : Order) (s : List ℕ) → length s ≡ rows .args .0 → (start : NewCall) (m : ℕ) (calls : ℕ → StepCall) → Run m o s (start .result) calls →
       (k : ℕ) → k < m → rows .result ≤ k → calls k .result .item ≡ End
   rows-end o s e start m calls r k l h = new-run-all o s start m calls r .ends k l (omega (arith, rows-enough o s e)) .item
