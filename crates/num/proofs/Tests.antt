@@ -39,6 +39,11 @@ module _ (test : ℕ → Bool) where
   unfolding each
   each-next n h k = rw (add-one n, h) k
 
+  -- the verdict on one number more
+  pub each-more : (n : ℕ) (a b : Bool) → a ≡ each test n → b ≡ test n → both a b ≡ each test (n + 1)
+  unfolding each
+  each-more n a b h k = rw (add-one n, h, k)
+
   pub each-all : (n : ℕ) → ((k : ℕ) → k < n → test k ≡ true) → each test n ≡ true
   unfolding each
   each-all zero h = refl
@@ -63,3 +68,21 @@ module _ (test : ℕ → Bool) where
   -- one that fails decides
   pub each-stop : (n k : ℕ) → k < n → test k ≡ false → each test n ≡ false
   each-stop n k l h = stop-by n k (each test n) refl l h
+
+module _ (test other : ℕ → Bool) where
+  -- two tests that are alike below n
+  pub each-same : (n : ℕ) → ((k : ℕ) → k < n → test k ≡ other k) → each test n ≡ each other n
+  unfolding each
+  each-same zero h = refl
+  each-same (suc n) h = rw (each-same n (λ k l. h k (omega arith)), h n (omega arith))
+
+  split-by : (a b c d : Bool) → both (both a b) (both c d) ≡ both (both a c) (both b d)
+  split-by true b true d = refl
+  split-by true b false d = both-false b
+  split-by false b c d = refl
+
+  -- both tests hold of every number where each of the two does
+  pub each-both : (n : ℕ) → each (λ k. both (test k) (other k)) n ≡ both (each test n) (each other n)
+  unfolding each
+  each-both zero = refl
+  each-both (suc n) = rw (each-both n) (split-by (each test n) (each other n) (test n) (other n))

@@ -1,4 +1,4 @@
 pub mod Laws
 pub mod Slots
 pub mod Tests
-pub mod Reach
+pub mod Powers

@@ -2,9 +2,8 @@
 use Prim.Native.Nat.{ℕ, zero, suc, _+_, _-_, _^_, _<_, _≤_}
 use mathlib.Core.Path.{_≡_, refl, ap, sym, _∙_}
 use mathlib.Core.Bool.{Bool, true, false, _&&_}
-use mathlib.Core.List.{List}
+use mathlib.Core.List.{List, []}
 use native.Mathlib.Nat.{zero-mul, zero-div}
-use native.Mathlib.Numerals.{add-one}
 use native.Mathlib.Omega.{arith}
 use lib.Dec.{T, eqb, ltb}
 use lib.Ieee.{Float, nan, inf, fin, binary32, ofBits, toBits, neg, lt, eq, fits}
@@ -14,12 +13,14 @@ use lib.ListN.{length, drop, getD, drop-of-length-le}
 use lib.Seq.{drop-cons}
 use mir.Syntax.{w64}
 use mir.Val.{SFits, ofZ}
-use borrow.Author.Tests.{ne-eqb}
-use Rattle.num.specs.Choice.{pick, both}
+use borrow.Author.Tests.{ne-eqb, eqb-true, lt-ltb}
+use Rattle.num.specs.Choice.{pick, both, each}
 use Rattle.body.specs.Levels.{isFinite}
-use Rattle.state.specs.Good.{isZero, isPlusZero, goodFrom}
+use Rattle.state.specs.Good.{isZero, isPlusZero, isOffset, isNoOffset, goodFrom}
 
-both-next : (a b r : Bool) → both a (both b r) ≡ both (a && b) r
+-- ---- a list, place by place
+
+both-next : (a b r : Bool) → both a (both b r) ≡ both (both a b) r
 both-next true b r = refl
 both-next false b r = refl
 
@@ -27,22 +28,28 @@ both-last : (a : Bool) → both a true ≡ a
 both-last true = refl
 both-last false = refl
 
--- a list's test, place by place: a is the verdict on the places before i, b the one on place i
 module _ {A : Type 0} (ok none : A → Bool) (n : ℕ) (l : List A) (d : A) where
-  abbrev placeGood : ℕ → Bool
+  abbrev pub placeGood : ℕ → Bool
   placeGood i = pick (ltb i n) (ok (getD l i d)) (none (getD l i d))
 
   from-step : (i : ℕ) → i < length l → goodFrom ok none n i (drop i l) ≡ both (placeGood i) (goodFrom ok none n (suc i) (drop (suc i) l))
   unfolding goodFrom
   from-step i h = rw (drop-cons l i d)
 
-  pub from-next : (i : ℕ) (a b : Bool) → i < length l → goodFrom ok none n 0 l ≡ both a (goodFrom ok none n i (drop i l)) → b ≡ placeGood i →
-      goodFrom ok none n 0 l ≡ both (a && b) (goodFrom ok none n (i + 1) (drop (i + 1) l))
-  from-next i a b h e q = rw (e, add-one i, from-step i h, q) (both-next a (placeGood i) _)
+  -- a list is good where its first places are, and those from there on
+  from-split : (i : ℕ) → i ≤ length l → goodFrom ok none n 0 l ≡ both (each placeGood i) (goodFrom ok none n i (drop i l))
+  unfolding each
+  from-split zero h = refl
+  from-split (suc i) h =
+      from-split i (omega arith) ∙ rw (from-step i (omega arith)) (both-next (each placeGood i) (placeGood i) (goodFrom ok none n (suc i) (drop (suc i) l)))
 
-  pub from-end : (i : ℕ) (a : Bool) → length l ≤ i → goodFrom ok none n 0 l ≡ both a (goodFrom ok none n i (drop i l)) → a ≡ goodFrom ok none n 0 l
+  -- so where every place is
+  pub from-each : (k : ℕ) → length l ≡ k → goodFrom ok none n 0 l ≡ each placeGood k
   unfolding goodFrom
-  from-end i a h e = sym (e ∙ rw (drop-of-length-le l h) (both-last a))
+  from-each k h =
+      let m : length l ≤ k = omega arith in
+      let e : drop k l ≡ [] = drop-of-length-le l m in
+      from-split k (omega arith) ∙ rw e (both-last (each placeGood k))
 
 -- ---- single values
 
@@ -87,3 +94,13 @@ unequal-zero (inf s) h = refl
 unequal-zero (fin true m e) h = refl
 unequal-zero (fin false (suc m) e) h = refl
 unequal-zero (fin false zero e) h = simp zero-mul at h
+
+-- ---- what stands for nothing may stand in a place that is used
+
+pub no-offset-small : (x : ℕ) → isNoOffset x ≡ true → isOffset x ≡ true
+no-offset-small x h = let z = eqb-true x 0 h in lt-ltb x (2 ^ 31) (omega arith)
+
+pub plus-zero-finite : (x : Float) → isPlusZero x ≡ true → isFinite x ≡ true
+plus-zero-finite nan h = h
+plus-zero-finite (inf s) h = h
+plus-zero-finite (fin s m e) h = refl

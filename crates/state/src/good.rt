@@ -1,5 +1,6 @@
 // Which states are good: every present value is one that the body table allows, and 0 stands where there is none.
 ghost use mathlib.Core.Path.{_≡_};
+ghost use Prim.Native.Nat.{_^_, _≤_};
 ghost use lib.Signed.{leZ};
 ghost use lib.Dec.{ltb, leb};
 ghost use Rattle.num.specs.Choice.{pick, both};
@@ -104,13 +105,6 @@ fn good_scale(x: LevelHeld) -> bool
     )
 }
 
-// The larger of two numbers.
-fn most(a: u32, b: u32) -> u32
-    ensures { λ r. ⌜ r ≡ pick (ltb a b) b a ⌝ }
-{
-    if a < b { b } else { a }
-}
-
 // A number where the test holds, 0 where it does not.
 fn only(test: bool, x: u32) -> u32
     ensures { λ r. ⌜ r ≡ pick test x 0 ⌝ }
@@ -118,48 +112,78 @@ fn only(test: bool, x: u32) -> u32
     if test { x } else { 0 }
 }
 
+// n, or 16 where it is more: a list has 16 places.
+fn used(n: usize) -> usize
+    ensures { λ r. ⌜ r ≡ pick (ltb n 16) n 16 ⌝ }
+{
+    if n < 16 { n } else { 16 }
+}
+
+// 2 to the power of k, which stands for place k of a list.
+fn power(k: usize) -> u32
+    requires { ⌜ k ≤ 16 ⌝ }
+    ensures { λ r. ⌜ r ≡ 2 ^ k ⌝ }
+{
+    1u32 << k
+}
+
+// Whether the places of a list that are not 0 are among its first n, where `filled` is the sum of their powers of two.
+fn within(filled: u32, n: usize) -> bool
+    ensures { λ r. ⌜ r ≡ ltb filled (2 ^ pick (ltb n 16) n 16) ⌝ }
+{
+    filled < power(used(n))
+}
+
 // Whether each place of a list holds what it may.
 pub struct Listed {
     pub offsets: bool,
-    pub hertz: bool,
     pub gains: bool,
 }
 
-// In each list the first n places are used, and the others hold 0: what is not 0 reaches no further than n. An offset
-// fits an int32, and a gain is finite. One loop goes over the three lists with no early way out, so that several places
-// are tested at a time. It notes the largest offset, 1 where a gain is endless, and in a, b and c how far each list
-// reaches.
-fn places(group: GroupPacking, frequencies: GroupHertz, gains: GroupGains) -> Listed
+// In each list the first n places are used, and the others hold 0: the powers of two of the places that hold something
+// else are together below 2 to the power of n. An offset fits an int32, and a gain is finite. One loop goes over both
+// lists; it has no early way out and compares no place with n, so that the compiler tests several places at a time.
+fn places(group: GroupPacking, gains: GroupGains) -> Listed
     ensures { λ r. ⌜ (r .offsets ≡ goodFrom isOffset isNoOffset (group .n) 0 (group .offsets))
-        × (r .hertz ≡ goodFrom anyNumber isZero (frequencies .n) 0 (frequencies .values))
         × (r .gains ≡ goodFrom isFinite isPlusZero (gains .n) 0 (gains .values)) ⌝ }
 {
     let offsets = group.offsets;
-    let hertz = frequencies.values;
     let decibels = gains.values;
-    let mut largest = 0u32;
-    let mut endless = 0u32;
+    let mut small = true;
+    let mut bounded = true;
     let mut a = 0u32;
     let mut b = 0u32;
-    let mut c = 0u32;
     let mut i = 0;
     while i < 16 {
+        let bit = power(i);
         let x = offsets[i];
-        let y = hertz[i];
         let z = decibels[i];
-        let end = (i + 1) as u32;
-        largest = most(largest, x);
-        endless = most(endless, only(!finite(z), 1));
-        a = most(a, only(x != 0, end));
-        b = most(b, only(!is_zero(y), end));
-        c = most(c, only(!plus_zero(z), end));
+        small = small & (x < 0x8000_0000);
+        bounded = bounded & finite(z);
+        a += only(x != 0, bit);
+        b += only(!plus_zero(z), bit);
         i += 1;
     }
     Listed {
-        offsets: (largest < 0x8000_0000) & (a as usize <= group.n),
-        hertz: b as usize <= frequencies.n,
-        gains: (endless == 0) & (c as usize <= gains.n),
+        offsets: small & within(a, group.n),
+        gains: bounded & within(b, gains.n),
     }
+}
+
+// The same of the frequencies, of which any may stand in a place that is used. Their loop is another one, since it
+// tests wider numbers.
+fn hertz_places(frequencies: GroupHertz) -> bool
+    ensures { λ r. ⌜ r ≡ goodFrom anyNumber isZero (frequencies .n) 0 (frequencies .values) ⌝ }
+{
+    let hertz = frequencies.values;
+    let mut filled = 0u32;
+    let mut i = 0;
+    while i < 16 {
+        let y = hertz[i];
+        filled += only(!is_zero(y), power(i));
+        i += 1;
+    }
+    within(filled, frequencies.n)
 }
 
 // With no channels there is no packing and no increment; otherwise the increment is 1 or n.
@@ -207,9 +231,9 @@ impl Values {
         let group = self.group;
         let frequencies = self.frequencies;
         let gains = self.gains;
-        let lists = places(group, frequencies, gains);
+        let lists = places(group, gains);
         good_list(group.n, lists.offsets)
-            & good_list(frequencies.n, lists.hertz)
+            & good_list(frequencies.n, hertz_places(frequencies))
             & good_list(gains.n, lists.gains)
     }
 }
