@@ -1,10 +1,12 @@
--- Laws of lists of up to 16 values: places filled one by one.
+-- Laws of lists of up to 16 values: places filled one by one, and what stands in each.
 use Prim.Native.Nat.{ℕ, zero, suc, _+_, _<_, _≤_}
 use mathlib.Core.Path.{_≡_, refl}
 use mathlib.Core.List.{List}
 use native.Mathlib.Omega.{arith}
-use lib.ListN.{set, replicate}
+use lib.Dec.{ltb}
+use lib.ListN.{length, set, getD, replicate}
 use borrow.Author.Tests.{lt-ltb, le-ltb}
+use Rattle.num.specs.Choice.{pick}
 use Rattle.body.specs.Lists.{upto}
 
 module _ {A : Type 0} (f : ℕ → A) (d : A) where
@@ -30,3 +32,25 @@ module _ {A : Type 0} (f : ℕ → A) (d : A) where
   -- one place more is filled
   pub upto-next : (n k : ℕ) (l : List A) (v : A) → n < k → l ≡ upto f d n 0 k → v ≡ f n → set l n v ≡ upto f d (n + 1) 0 k
   upto-next n k l v h e q = rw (e, q, upto-set n 0 n k (omega arith) h)
+
+  at-by : (n i j k c : ℕ) (e : A) → i + j ≡ c → j < k → getD (upto f d n i k) j e ≡ pick (ltb c n) (f c) d
+  unfolding upto
+  at-by n i j zero c e h g = absurd (omega arith)
+  at-by n i zero (suc k) c e h g = let s : i ≡ c = omega arith in rw s
+  at-by n i (suc j) (suc k) c e h g = at-by n (suc i) j k c e (omega arith) (omega arith)
+
+  -- what stands in a place
+  pub upto-at : (n j k : ℕ) (e : A) → j < k → getD (upto f d n 0 k) j e ≡ pick (ltb j n) (f j) d
+  upto-at n j k e h = at-by n 0 j k j e (omega arith) h
+
+  pub upto-length : (n i k : ℕ) → length (upto f d n i k) ≡ k
+  unfolding upto
+  upto-length n i zero = refl
+  upto-length n i (suc k) = rw (upto-length n (suc i) k)
+
+module _ {A : Type 0} (f g : ℕ → A) (d : A) (n m : ℕ) where
+  -- two that have the same in each place
+  pub upto-same : (i k : ℕ) → ((c : ℕ) → c < i + k → pick (ltb c n) (f c) d ≡ pick (ltb c m) (g c) d) → upto f d n i k ≡ upto g d m i k
+  unfolding upto
+  upto-same i zero h = refl
+  upto-same i (suc k) h = rw (h i (omega arith), upto-same (suc i) k (λ c l. h c (omega arith)))

@@ -13,7 +13,9 @@ use Rattle.body.specs.declared.groups.GroupHertz.{GroupHertz}
 use Rattle.body.specs.declared.groups.GroupGains.{GroupGains}
 use Rattle.cover.specs.Cover.{groupCovers}
 use Rattle.body.specs.Table.{frequencies, gains}
-use Rattle.state.specs.State.{emptied, setIn}
+use Rattle.state.specs.State.{emptied, setIn, withSums}
+use Rattle.state.specs.Sums.{noSums}
+use Rattle.state.specs.declared.sums.GainSums.{GainSums}
 use Rattle.state.specs.declared.Values.{Values}
 use Rattle.state.specs.declared.State.{State}
 use Rattle.effect.specs.Says.{Says, ok, unknown, bad, waits, ready}
@@ -74,9 +76,14 @@ hertzOf n h = pick (eqb (h .n) n) h noHertz
 abbrev pub gainsOf : ℕ → GroupGains → GroupGains
 gainsOf n g = pick (eqb (g .n) n) g noGains
 
+-- the sums are shown where the gains are
+abbrev pub besideOf : ℕ → GroupGains → GainSums → GainSums
+besideOf n g s = pick (eqb (g .n) n) s noSums
+
 abbrev pub inGroup : Values → Values
 inGroup v =
-    setIn gains (gainsOf (v .group .n) (v .gains)) (setIn frequencies (hertzOf (v .group .n) (v .frequencies)) v)
+    withSums (setIn gains (gainsOf (v .group .n) (v .gains)) (setIn frequencies (hertzOf (v .group .n) (v .frequencies)) v))
+    (besideOf (v .group .n) (v .gains) (v .sums))
 
 -- the data of a chunk that is ready; of any other there is none to copy: number 35
 abbrev pub readyData : Says → Answer Data

@@ -117,9 +117,8 @@ fn dbtg(order: Order, body: &[u8], was: State) -> Taken
 {
     let read = body::dbtg(order, body);
     let value = value::levelled(read);
-    let mut values = was.values;
-    values.total_gain = value;
-    set(value::of_level(read), was, values)
+    let values = was.values;
+    set(value::of_level(read), was, values.with_total_gain(value))
 }
 
 fn ffs(order: Order, body: &[u8], was: State) -> Taken
@@ -160,9 +159,8 @@ fn grg(order: Order, body: &[u8], was: State) -> Taken
     let read = body::grg(order, body);
     let value = read.gains;
     let checked = read.checked;
-    let mut values = was.values;
-    values.gains = value;
-    set(value::of_checked(checked), was, values)
+    let values = was.values;
+    set(value::of_checked(checked), was, values.with_gains(value))
 }
 
 // A well-formed IQDC sets the start mark.

@@ -6,7 +6,7 @@ ghost use Rattle.num.specs.Choice.{pick};
 ghost use Rattle.body.specs.Samples.{dataSaid};
 ghost use Rattle.state.specs.State.{withValues};
 ghost use Rattle.effect.specs.Says.{verdictSaid};
-ghost use Rattle.effect.specs.Ready.{dataSays, covering, isReady, noState, hertzOf, gainsOf, inGroup};
+ghost use Rattle.effect.specs.Ready.{dataSays, covering, isReady, noState, hertzOf, gainsOf, besideOf, inGroup};
 ghost use Rattle.effect.specs.Effect.{dataEffect};
 ghost use Rattle.effect.specs.IsEffect.{IsEffect};
 use crate::Lack;
@@ -16,6 +16,7 @@ use body::DataRead;
 use body::GroupGains;
 use body::GroupHertz;
 use body::GroupPacking;
+use state::GainSums;
 use state::State;
 use state::Values;
 
@@ -86,18 +87,28 @@ fn gains_of(n: usize, g: GroupGains) -> GroupGains
     if g.n == n { g } else { body::no_gains() }
 }
 
-// The values as a group chunk shows them.
+fn beside_of(n: usize, g: GroupGains, sums: GainSums) -> GainSums
+    ensures { λ r. ⌜ r ≡ besideOf n g sums ⌝ }
+{
+    if g.n == n { sums } else { state::no_sums() }
+}
+
+// The values as a group chunk shows them: without frequencies or gains of another count than the packing's, and without
+// the sums of such gains.
 fn in_group(was: Values) -> Values
     ensures { λ r. ⌜ r ≡ inGroup was ⌝ }
 {
     let group = was.group;
     let frequencies = was.frequencies;
     let gains = was.gains;
+    let sums = was.sums;
     let mut shown = was;
     let h = hertz_of(group.n, frequencies);
     let g = gains_of(group.n, gains);
+    let t = beside_of(group.n, gains, sums);
     shown.frequencies = h;
     shown.gains = g;
+    shown.sums = t;
     shown
 }
 

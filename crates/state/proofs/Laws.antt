@@ -4,11 +4,11 @@ use Prim.Native.Nat.{ℕ, zero, suc, _<_, _≤_}
 use mathlib.Core.Path.{_≡_, refl, sym, _∙_}
 use mathlib.Core.Bool.{Bool, true, false}
 use lib.Dec.{ltb}
-use lib.Ieee.{ofBits}
+use lib.Ieee.{ofBits, toBits}
 use lib.IntN.{pos}
 use lib.Signed.{leZ}
 use borrow.Author.Tests.{le-leb, ltb-true}
-use Rattle.num.specs.Choice.{pick}
+use Rattle.num.specs.Choice.{pick, each}
 use Rattle.num.proofs.Tests.{both-true}
 use Rattle.body.specs.Levels.{isFinite}
 use Rattle.body.specs.Lists.{upto, sixteen}
@@ -16,6 +16,8 @@ use Rattle.body.specs.Table.{Slot, packing, rate, band, groupBand, centre, full
 use Rattle.state.specs.declared.Values.{Values}
 use Rattle.state.specs.declared.State.{State}
 use Rattle.state.specs.State.{emptied, setIn, withValues}
+use Rattle.state.specs.Sums.{sumsOf, agree}
+use Rattle.state.proofs.Summed.{own-agree}
 use Rattle.state.specs.Good.{zeroOrOne, anyNumber, isScale, isOffset, isNoOffset, goodNumber, goodBand, goodLevel, goodFrom, goodList, goodHead, goodFrequencies, goodGains, goodIn, goodState, goodValues, goodLists}
 
 -- ---- the parts of a good state
@@ -33,6 +35,7 @@ pub record Parts (v : Values) : Type 0 where
   pub offsets : goodList isOffset isNoOffset (v .group .n) (v .group .offsets) ≡ true
   pub frequencies : goodFrequencies (v .frequencies) ≡ true
   pub gains : goodGains (v .gains) ≡ true
+  pub sums : agree (v .«total_gain») (v .gains) (v .sums) ≡ true
 
 pub good-parts : (s : State) → goodState s ≡ true → Parts (s .values)
 unfolding goodValues goodLists
@@ -46,7 +49,8 @@ good-parts s g =
     let b = both-true _ _ (c .0) in
     let a = both-true _ _ (b .0) in
     let p = both-true _ _ (a .0) in
-    let l = both-true _ _ (two .1) in
+    let m = both-true _ _ (two .1) in
+    let l = both-true _ _ (m .0) in
     let k = both-true _ _ (l .0) in
     record {
       packing = p .0;
@@ -61,9 +65,11 @@ good-parts s g =
       offsets = k .0;
       frequencies = k .1;
       gains = l .1;
+      sums = m .1;
     }
 
--- ---- a slot that was set: its test is true as the old one's was, so nothing else of the state's test changes
+-- ---- a slot that was set: its test is true as the old one's was, and sums that were made anew agree, so nothing else of
+-- the state's test changes
 
 pub set-good : (x : Slot) (a : Value x) (s : State) → goodState s ≡ true → goodIn x a ≡ true → goodState (withValues s (setIn x a (s .values))) ≡ true
 unfolding goodValues goodLists
@@ -73,14 +79,19 @@ set-good band a s g h = rw (h ∙ sym (good-parts s g .band)) g
 set-good groupBand a s g h = rw (h ∙ sym (good-parts s g .group-band)) g
 set-good centre a s g h = rw (h ∙ sym (good-parts s g .centre)) g
 set-good fullScale a s g h = rw (h ∙ sym (good-parts s g .full-scale)) g
-set-good totalGain a s g h = rw (h ∙ sym (good-parts s g .total-gain)) g
+set-good totalGain a s g h =
+    let p = good-parts s g in
+    rw (h ∙ sym (p .total-gain), own-agree a (s .values .gains) (sumsOf a (s .values .gains)) refl ∙ sym (p .sums)) g
 set-good floatScale a s g h = rw (h ∙ sym (good-parts s g .float-scale)) g
 set-good group a s g h =
     let p = good-parts s g in
     let q = both-true (goodHead a) (goodList isOffset isNoOffset (a .n) (a .offsets)) h in
     rw (q .0 ∙ sym (p .head), q .1 ∙ sym (p .offsets)) g
 set-good frequencies a s g h = rw (h ∙ sym (good-parts s g .frequencies)) g
-set-good gains a s g h = rw (h ∙ sym (good-parts s g .gains)) g
+set-good gains a s g h =
+    let p = good-parts s g in
+    let t = s .values .«total_gain» in
+    rw (h ∙ sym (p .gains), own-agree t a (sumsOf t a) refl ∙ sym (p .sums)) g
 
 -- ---- absent values
 
@@ -99,7 +110,7 @@ none-good frequencies = refl
 none-good gains = refl
 
 pub empty-good : (m : Bool) → goodState (emptied m) ≡ true
-unfolding goodValues goodLists goodFrom ofBits
+unfolding goodValues goodLists goodFrom ofBits each upto toBits
 empty-good m = refl
 
 -- ---- lists

@@ -1,4 +1,5 @@
 pub mod Laws
+pub mod Summed
 pub mod Slots
 pub mod Tests
 pub mod Powers

@@ -1,16 +1,16 @@
 -- Laws of the test of a list by powers of two: place k stands for 2 ^ k, and the powers of the places that hold something
 -- are added.
-use Prim.Native.Nat.{ℕ, zero, suc, _+_, _^_, _<_}
+use Prim.Native.Nat.{ℕ, zero, suc, _+_, _-_, _*_, _%_, _^_, _<_}
 use mathlib.Core.Path.{_≡_, refl, sym, ap, _∙_}
-use mathlib.Core.Bool.{Bool, true, false, not}
+use mathlib.Core.Bool.{Bool, true, false, not, Bool·beq}
 use mathlib.Core.List.{List}
-use native.Mathlib.Nat.{two-pow-succ}
+use native.Mathlib.Nat.{two-pow-succ, zero-mod, mod-eq-of-lt, add-mul-mod-self-left}
 use native.Mathlib.Numerals.{add-one}
 use native.Mathlib.Omega.{arith}
-use borrow.Author.Tests.{lt-ltb, le-ltb, ltb-true, ltb-false}
-use lib.Dec.{ltb}
+use borrow.Author.Tests.{lt-ltb, le-ltb, eq-eqb, ne-eqb, ltb-true, ltb-false, eqb-true, eqb-false}
+use lib.Dec.{eqb, ltb}
 use lib.ListN.{length, getD}
-use lib.Pow.{pow-pos, pow-mono}
+use lib.Pow.{pow-pos, pow-mono, pow-add}
 use Rattle.num.specs.Choice.{pick, both, either, each}
 use Rattle.num.proofs.Tests.{each-same, each-both}
 use Rattle.state.specs.Good.{goodFrom}
@@ -79,6 +79,48 @@ unfolding powers each
 powers-within f n zero = lt-ltb 0 (2 ^ n) (pow-pos n)
 powers-within f n (suc i) = within-by n i (powers f i) _ (powers-below f i) (powers-within f n i) (f i) (ltb i n) refl
 
+-- ---- those below m, and two sums of powers
+
+-- where the places below m alone are looked at, the others' powers are a multiple of 2 ^ m
+module _ (m i a b : ℕ) (small : a < 2 ^ i) (before : a % 2 ^ m ≡ b) where
+  rest-by : (t u : Bool) → ltb i m ≡ u → (a + pick t (2 ^ i) 0) % 2 ^ m ≡ b + pick (both u t) (2 ^ i) 0
+  rest-by true true e =
+      let k = ltb-true i m e in
+      let p = pow-mono {i = suc i} {j = m} k in
+      let q = two-pow-succ i in
+      let s : a ≡ b = sym (mod-eq-of-lt {n = a} {m = 2 ^ m} (omega arith)) ∙ before in
+      mod-eq-of-lt {n = a + 2 ^ i} {m = 2 ^ m} (omega arith) ∙ ap (λ (x : ℕ). x + 2 ^ i) s
+  rest-by true false e =
+      let k = ltb-false i m e in
+      let s : m + (i - m) ≡ i = omega arith in
+      let p : 2 ^ i ≡ 2 ^ m * 2 ^ (i - m) = ap (λ (x : ℕ). 2 ^ x) (sym s) ∙ pow-add 2 m (i - m) in
+      let z : b ≡ b + 0 = omega arith in
+      rw p (add-mul-mod-self-left a (2 ^ m) (2 ^ (i - m))) ∙ before ∙ z
+  rest-by false true e = let z : a + 0 ≡ a = omega arith in let y : b ≡ b + 0 = omega arith in rw z (before ∙ y)
+  rest-by false false e = let z : a + 0 ≡ a = omega arith in let y : b ≡ b + 0 = omega arith in rw z (before ∙ y)
+
+pub powers-rest : (f : ℕ → Bool) (m i : ℕ) → powers f i % 2 ^ m ≡ powers (λ c. both (ltb c m) (f c)) i
+unfolding powers
+powers-rest f m zero = zero-mod (2 ^ m)
+powers-rest f m (suc i) = rest-by m i (powers f i) _ (powers-below f i) (powers-rest f m i) (f i) (ltb i m) refl
+
+module _ (p a b : ℕ) (d : Bool) (small : a < p) (tiny : b < p) (before : eqb a b ≡ d) where
+  equal-by : (t u : Bool) → eqb (a + pick t p 0) (b + pick u p 0) ≡ both d (Bool·beq t u)
+  equal-by true true = shifted p d before
+    where
+      shifted : (x : ℕ) (c : Bool) → eqb a b ≡ c → eqb (a + x) (b + x) ≡ both c true
+      shifted x true e = let h = eqb-true a b e in eq-eqb (a + x) (b + x) (omega arith)
+      shifted x false e = let h = eqb-false a b e in ne-eqb (a + x) (b + x) (λ q. h (omega (arith, q)))
+  equal-by true false = ne-eqb (a + p) (b + 0) (λ q. omega (arith, q, small, tiny)) ∙ sym (not-last d)
+  equal-by false true = ne-eqb (a + 0) (b + p) (λ q. omega (arith, q, small, tiny)) ∙ sym (not-last d)
+  equal-by false false = let y : a + 0 ≡ a = omega arith in let z : b + 0 ≡ b = omega arith in rw (y, z) (before ∙ keep-true d true)
+
+-- two sums of powers are equal exactly where the same places are counted
+pub powers-equal : (f g : ℕ → Bool) (i : ℕ) → eqb (powers f i) (powers g i) ≡ each (λ c. Bool·beq (f c) (g c)) i
+unfolding powers each
+powers-equal f g zero = refl
+powers-equal f g (suc i) = equal-by (2 ^ i) (powers f i) (powers g i) _ (powers-below f i) (powers-below g i) (powers-equal f g i) (f i) (g i)
+
 -- ---- a list
 
 not-not : (b : Bool) → b ≡ not (not b)
@@ -86,7 +128,7 @@ not-not true = refl
 not-not false = refl
 
 -- of sixteen places, more than sixteen are not used
-used-by : (c n : ℕ) (t : Bool) → ltb n 16 ≡ t → c < 16 → ltb c n ≡ ltb c (pick t n 16)
+pub used-by : (c n : ℕ) (t : Bool) → ltb n 16 ≡ t → c < 16 → ltb c n ≡ ltb c (pick t n 16)
 used-by c n true e h = refl
 used-by c n false e h = let k = ltb-false n 16 e in lt-ltb c n (omega arith) ∙ sym (lt-ltb c 16 h)
 

@@ -1,9 +1,10 @@
 -- Laws of the slots: what stands in each after one was set, and that the values are what their slots hold.
-use mathlib.Core.Path.{_≡_, refl, ap, _∙_}
+use mathlib.Core.Path.{_≡_, refl, sym, ap, _∙_}
 use mathlib.Core.Bool.{Bool, true, false}
 use Rattle.num.specs.Choice.{pick}
 use Rattle.body.specs.Table.{Slot, packing, rate, band, groupBand, centre, fullScale, totalGain, floatScale, group, frequencies, gains, Value, none, isSlot}
-use Rattle.state.specs.State.{valueIn, setIn, built}
+use Rattle.state.specs.State.{valueIn, setIn, built, withSums, Summed}
+use Rattle.state.specs.declared.sums.GainSums.{GainSums}
 use Rattle.state.specs.declared.Values.{Values}
 
 pub in-built : (f : (x : Slot) → Value x) (x : Slot) → valueIn x (built f) ≡ f x
@@ -19,16 +20,20 @@ in-built f group = refl
 in-built f frequencies = refl
 in-built f gains = refl
 
--- two that hold the same in every slot are the same
-pub same-values : (v w : Values) → ((x : Slot) → valueIn x v ≡ valueIn x w) → v ≡ w
-same-values v w h = λ i. built (λ x. h x i)
+-- values are what their slots hold, with the sums that follow, where their sums are those of their parts
+rebuilt-is : (v : Values) → Summed v → built (λ x. valueIn x v) ≡ v
+rebuilt-is v h = λ i. withSums v (sym h i)
+
+-- so two that hold the same in every slot, and whose sums are those of their parts, are the same
+pub same-values : (v w : Values) → Summed v → Summed w → ((x : Slot) → valueIn x v ≡ valueIn x w) → v ≡ w
+same-values v w p q h = sym (rebuilt-is v p) ∙ (λ i. built (λ x. h x i)) ∙ rebuilt-is w q
 
 -- the values w where the test holds, and v where it does not
 abbrev mixed : (Slot → Bool) → Values → Values → (x : Slot) → Value x
 mixed test w v x = pick (test x) (valueIn x w) (valueIn x v)
 
 -- after a slot was set, it holds what it holds where that is set in no values at all; the others are as they were
-put-mixed : (y : Slot) (a : Value y) (v : Values) → setIn y a v ≡ built (mixed (isSlot y) (setIn y a (built none)) v)
+put-mixed : (y : Slot) (a : Value y) (v : Values) → built (λ x. valueIn x (setIn y a v)) ≡ built (mixed (isSlot y) (setIn y a (built none)) v)
 put-mixed packing a v = refl
 put-mixed rate a v = refl
 put-mixed band a v = refl
@@ -42,7 +47,8 @@ put-mixed frequencies a v = refl
 put-mixed gains a v = refl
 
 in-put : (y : Slot) (a : Value y) (v : Values) (x : Slot) (b : Bool) → isSlot y x ≡ b → valueIn x (setIn y a v) ≡ pick b (valueIn x (setIn y a (built none))) (valueIn x v)
-in-put y a v x b e = ap (valueIn x) (put-mixed y a v) ∙ in-built (mixed (isSlot y) (setIn y a (built none)) v) x ∙ rw e
+in-put y a v x b e =
+    sym (in-built (λ z. valueIn z (setIn y a v)) x) ∙ ap (valueIn x) (put-mixed y a v) ∙ in-built (mixed (isSlot y) (setIn y a (built none)) v) x ∙ rw e
 
 -- every other slot is left
 pub set-other : (y : Slot) (a : Value y) (v : Values) (x : Slot) → isSlot y x ≡ false → valueIn x (setIn y a v) ≡ valueIn x v
@@ -65,6 +71,20 @@ in-set floatScale a v = refl
 in-set group a v = refl
 in-set frequencies a v = refl
 in-set gains a v = refl
+
+-- the sums are in no slot
+pub sums-other : (v : Values) (s : GainSums) (x : Slot) → valueIn x (withSums v s) ≡ valueIn x v
+sums-other v s packing = refl
+sums-other v s rate = refl
+sums-other v s band = refl
+sums-other v s groupBand = refl
+sums-other v s centre = refl
+sums-other v s fullScale = refl
+sums-other v s totalGain = refl
+sums-other v s floatScale = refl
+sums-other v s group = refl
+sums-other v s frequencies = refl
+sums-other v s gains = refl
 
 -- an absent value set where none is present changes nothing
 pub set-none : (x : Slot) → setIn x (none x) (built none) ≡ built none

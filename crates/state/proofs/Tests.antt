@@ -1,21 +1,23 @@
 -- Laws of the tests that the code runs: a list's places one after the other, and single values.
 use Prim.Native.Nat.{ℕ, zero, suc, _+_, _-_, _^_, _<_, _≤_}
-use mathlib.Core.Path.{_≡_, refl, ap, sym, _∙_}
-use mathlib.Core.Bool.{Bool, true, false, _&&_}
+use mathlib.Core.Path.{_≡_, refl, ap, sym, subst, _∙_}
+use mathlib.Core.Bool.{Bool, true, false, not, _&&_}
 use mathlib.Core.List.{List, []}
 use native.Mathlib.Nat.{zero-mul, zero-div}
 use native.Mathlib.Omega.{arith}
 use lib.Dec.{T, eqb, ltb}
-use lib.Ieee.{Float, nan, inf, fin, binary32, ofBits, toBits, neg, lt, eq, fits}
+use lib.Ieee.{Float, nan, inf, fin, binary32, ofBits, toBits, neg, lt, eq, fits, isNan}
 use lib.Ieee.Bits.{ofBits-toBits}
 use lib.IntN.{ℤ, pos, negsuc}
 use lib.ListN.{length, drop, getD, drop-of-length-le}
 use lib.Seq.{drop-cons}
 use mir.Syntax.{w64}
 use mir.Val.{SFits, ofZ}
-use borrow.Author.Tests.{ne-eqb, eqb-true, lt-ltb}
+use borrow.Author.Tests.{ne-eqb, eqb-true, lt-ltb, ltb-true}
 use Rattle.num.specs.Choice.{pick, both, each}
+use Rattle.num.proofs.Tests.{both-false}
 use Rattle.body.specs.Levels.{isFinite}
+use Rattle.body.proofs.Nans.{unequal-nan}
 use Rattle.state.specs.Good.{isZero, isPlusZero, isOffset, isNoOffset, goodFrom}
 
 -- ---- a list, place by place
@@ -104,3 +106,43 @@ pub plus-zero-finite : (x : Float) → isPlusZero x ≡ true → isFinite x ≡ 
 plus-zero-finite nan h = h
 plus-zero-finite (inf s) h = h
 plus-zero-finite (fin s m e) h = refl
+
+-- ---- two floats with one pattern
+
+pub equal-no-nan-right : (x y : Float) → eq x y ≡ true → T (not (isNan y))
+unfolding eq isNan
+equal-no-nan-right nan y h = absurd (subst T (sym h) tt)
+equal-no-nan-right (inf s) nan h = absurd (subst T (sym h) tt)
+equal-no-nan-right (inf s) (inf t) h = tt
+equal-no-nan-right (inf s) (fin t n d) h = tt
+equal-no-nan-right (fin s m e) nan h = absurd (subst T (sym h) tt)
+equal-no-nan-right (fin s m e) (inf t) h = tt
+equal-no-nan-right (fin s m e) (fin t n d) h = tt
+
+is-true : (b c : Bool) → T b → c ≡ both b c
+is-true true c t = refl
+is-true false c t = absurd t
+
+pub equal-alike : (x y : Float) → eq x y ≡ true → eqb (toBits binary32 x) (toBits binary32 y) ≡ both (not (isNan y)) (eqb (toBits binary32 x) (toBits binary32 y))
+equal-alike x y h = is-true (not (isNan y)) _ (equal-no-nan-right x y h)
+
+nan-is : isNan nan ≡ true
+unfolding isNan
+nan-is = refl
+
+patterns-by : (x y : Float) (b : Bool) → eqb (toBits binary32 x) (toBits binary32 y) ≡ b → T (fits binary32 x) → T (fits binary32 y) → eq x y ≡ false → both (not (isNan y)) b ≡ false
+patterns-by x y true e f g h =
+    let s : x ≡ y = sym (ofBits-toBits binary32 x f) ∙ ap (ofBits binary32) (eqb-true _ _ e) ∙ ofBits-toBits binary32 y g in
+    let n : y ≡ nan = unequal-nan y (rw s at h) in
+    rw (n, nan-is)
+patterns-by x y false e f g h = both-false (not (isNan y))
+
+-- two that are not equal have two patterns, or the second is a NaN
+pub unequal-patterns : (x y : Float) → T (fits binary32 x) → T (fits binary32 y) → eq x y ≡ false → both (not (isNan y)) (eqb (toBits binary32 x) (toBits binary32 y)) ≡ false
+unequal-patterns x y f g h = patterns-by x y (eqb (toBits binary32 x) (toBits binary32 y)) refl f g h
+
+-- ---- a count of places
+
+pub at-most : (n : ℕ) (t : Bool) → ltb n 16 ≡ t → pick t n 16 ≤ 16
+at-most n true e = let k = ltb-true n 16 e in omega arith
+at-most n false e = omega arith

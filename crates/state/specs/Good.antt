@@ -1,5 +1,6 @@
 -- Which states are good: every present value is one that the body table allows, every absent value and every list place
--- that is not used is 0. A state that is not good is refused with number 3 where its cursor is in step.
+-- that is not used is 0, and the sums agree with their parts. A state that is not good is refused with number 3 where its
+-- cursor is in step.
 use Prim.Native.Nat.{ℕ, zero, suc, _^_}
 use mathlib.Core.Bool.{Bool, true, false, not, _&&_}
 use mathlib.Core.List.{List, [], _∷_}
@@ -16,6 +17,7 @@ use Rattle.body.specs.declared.groups.GroupGains.{GroupGains}
 use Rattle.body.specs.declared.values.Held.{Held}
 use Rattle.body.specs.declared.values.BandHeld.{BandHeld}
 use Rattle.body.specs.declared.values.LevelHeld.{LevelHeld}
+use Rattle.state.specs.Sums.{agree}
 use Rattle.state.specs.declared.Values.{Values}
 use Rattle.state.specs.declared.State.{State}
 
@@ -113,13 +115,14 @@ goodValues v =
     && goodIn floatScale (v .«float_scale»)
     && goodHead (v .group)
 
--- the three lists are good
+-- the three lists are good, and the sums agree with their parts
 unfoldable pub goodLists : Values → Bool
 goodLists v =
     goodList isOffset isNoOffset (v .group .n) (v .group .offsets)
     && goodIn frequencies (v .frequencies)
     && goodIn gains (v .gains)
+    && agree (v .«total_gain») (v .gains) (v .sums)
 
--- every value is good; the mark may be set or not
+-- every value is good, and so are the sums; the mark may be set or not
 abbrev pub goodState : State → Bool
 goodState s = both (goodValues (s .values)) (goodLists (s .values))

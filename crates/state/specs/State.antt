@@ -1,6 +1,9 @@
--- The channel state: a value in each slot, and the start mark.
+-- The channel state: a value in each slot, the sums that follow from two of them, and the start mark.
+use mathlib.Core.Path.{_≡_}
 use mathlib.Core.Bool.{Bool}
 use Rattle.body.specs.Table.{Slot, packing, rate, band, groupBand, centre, fullScale, totalGain, floatScale, group, frequencies, gains, Value, none}
+use Rattle.state.specs.Sums.{sumsOf}
+use Rattle.state.specs.declared.sums.GainSums.{GainSums}
 use Rattle.state.specs.declared.Values.{Values}
 use Rattle.state.specs.declared.State.{State}
 
@@ -18,7 +21,7 @@ valueIn group v = v .group
 valueIn frequencies v = v .frequencies
 valueIn gains v = v .gains
 
--- values with another value in one slot
+-- values with another value in one slot; dBTG and the gains bring their sums with them
 abbrev pub setIn : (x : Slot) → Value x → Values → Values
 setIn packing a v = record {
   packing = a;
@@ -32,6 +35,7 @@ setIn packing a v = record {
   group = v .group;
   frequencies = v .frequencies;
   gains = v .gains;
+  sums = v .sums;
 }
 setIn rate a v = record {
   packing = v .packing;
@@ -45,6 +49,7 @@ setIn rate a v = record {
   group = v .group;
   frequencies = v .frequencies;
   gains = v .gains;
+  sums = v .sums;
 }
 setIn band a v = record {
   packing = v .packing;
@@ -58,6 +63,7 @@ setIn band a v = record {
   group = v .group;
   frequencies = v .frequencies;
   gains = v .gains;
+  sums = v .sums;
 }
 setIn groupBand a v = record {
   packing = v .packing;
@@ -71,6 +77,7 @@ setIn groupBand a v = record {
   group = v .group;
   frequencies = v .frequencies;
   gains = v .gains;
+  sums = v .sums;
 }
 setIn centre a v = record {
   packing = v .packing;
@@ -84,6 +91,7 @@ setIn centre a v = record {
   group = v .group;
   frequencies = v .frequencies;
   gains = v .gains;
+  sums = v .sums;
 }
 setIn fullScale a v = record {
   packing = v .packing;
@@ -97,6 +105,7 @@ setIn fullScale a v = record {
   group = v .group;
   frequencies = v .frequencies;
   gains = v .gains;
+  sums = v .sums;
 }
 setIn totalGain a v = record {
   packing = v .packing;
@@ -110,6 +119,7 @@ setIn totalGain a v = record {
   group = v .group;
   frequencies = v .frequencies;
   gains = v .gains;
+  sums = sumsOf a (v .gains);
 }
 setIn floatScale a v = record {
   packing = v .packing;
@@ -123,6 +133,7 @@ setIn floatScale a v = record {
   group = v .group;
   frequencies = v .frequencies;
   gains = v .gains;
+  sums = v .sums;
 }
 setIn group a v = record {
   packing = v .packing;
@@ -136,6 +147,7 @@ setIn group a v = record {
   group = a;
   frequencies = v .frequencies;
   gains = v .gains;
+  sums = v .sums;
 }
 setIn frequencies a v = record {
   packing = v .packing;
@@ -149,6 +161,7 @@ setIn frequencies a v = record {
   group = v .group;
   frequencies = a;
   gains = v .gains;
+  sums = v .sums;
 }
 setIn gains a v = record {
   packing = v .packing;
@@ -162,9 +175,10 @@ setIn gains a v = record {
   group = v .group;
   frequencies = v .frequencies;
   gains = a;
+  sums = sumsOf (v .«total_gain») a;
 }
 
--- values given slot by slot
+-- values given slot by slot, with the sums that follow
 abbrev pub built : ((x : Slot) → Value x) → Values
 built f = record {
   packing = f packing;
@@ -178,7 +192,29 @@ built f = record {
   group = f group;
   frequencies = f frequencies;
   gains = f gains;
+  sums = sumsOf (f totalGain) (f gains);
 }
+
+-- values with other sums
+abbrev pub withSums : Values → GainSums → Values
+withSums v s = record {
+  packing = v .packing;
+  rate = v .rate;
+  band = v .band;
+  «group_band» = v .«group_band»;
+  centre = v .centre;
+  «full_scale» = v .«full_scale»;
+  «total_gain» = v .«total_gain»;
+  «float_scale» = v .«float_scale»;
+  group = v .group;
+  frequencies = v .frequencies;
+  gains = v .gains;
+  sums = s;
+}
+
+-- the sums are those of their parts
+abbrev pub Summed : Values → Type 0
+Summed v = v .sums ≡ sumsOf (v .«total_gain») (v .gains)
 
 -- no value is present
 abbrev pub emptied : Bool → State

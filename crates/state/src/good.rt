@@ -1,12 +1,19 @@
-// Which states are good: every present value is one that the body table allows, and 0 stands where there is none.
+// Which states are good: every present value is one that the body table allows, 0 stands where there is none, and the
+// sums agree with their parts.
 ghost use mathlib.Core.Path.{_≡_};
 ghost use Prim.Native.Nat.{_^_, _≤_};
 ghost use lib.Signed.{leZ};
-ghost use lib.Dec.{ltb, leb};
+ghost use mathlib.Core.Bool.{not};
+ghost use lib.Dec.{eqb, ltb, leb};
+ghost use lib.Ieee.{binary32, toBits, isNan};
+ghost use Rattle.state.specs.Sums.{agree};
 ghost use Rattle.num.specs.Choice.{pick, both};
 ghost use Rattle.body.specs.Levels.{isFinite};
 ghost use Rattle.state.specs.Good.{isZero, isPlusZero, zeroOrOne, anyNumber, isScale, isOffset, isNoOffset, goodNumber, goodBand, goodLevel, goodFrom, goodHead, goodValues, goodLists};
+use crate::GainSums;
 use crate::Values;
+use crate::sums::channels;
+use crate::sums::kept;
 use body::BandHeld;
 use body::GroupGains;
 use body::GroupHertz;
@@ -40,7 +47,7 @@ fn zero_or_one(x: i64) -> bool
 }
 
 // Above -infinity and below infinity, which no NaN is.
-fn finite(x: f32) -> bool
+pub(crate) fn finite(x: f32) -> bool
     ensures { λ r. ⌜ r ≡ isFinite x ⌝ }
 {
     let top = f32::from_bits(0x7F80_0000);
@@ -113,7 +120,7 @@ fn only(test: bool, x: u32) -> u32
 }
 
 // n, or 16 where it is more: a list has 16 places.
-fn used(n: usize) -> usize
+pub(crate) fn used(n: usize) -> usize
     ensures { λ r. ⌜ r ≡ pick (ltb n 16) n 16 ⌝ }
 {
     if n < 16 { n } else { 16 }
@@ -134,39 +141,67 @@ fn within(filled: u32, n: usize) -> bool
     filled < power(used(n))
 }
 
-// Whether each place of a list holds what it may.
+// Whether two floats have one pattern. A NaN has no pattern of its own.
+fn same(x: f32, y: f32) -> bool
+    ensures { λ r. ⌜ r ≡ both (not (isNan y)) (eqb (toBits binary32 x) (toBits binary32 y)) ⌝ }
+{
+    if x == y {
+        f32::to_bits(x) == f32::to_bits(y)
+    } else {
+        false
+    }
+}
+
+// Whether each place of a list holds what it may, and whether the sums are right.
 pub struct Listed {
     pub offsets: bool,
     pub gains: bool,
+    pub sums: bool,
 }
 
 // In each list the first n places are used, and the others hold 0: the powers of two of the places that hold something
-// else are together below 2 to the power of n. An offset fits an int32, and a gain is finite. One loop goes over both
-// lists; it has no early way out and compares no place with n, so that the compiler tests several places at a time.
-fn places(group: GroupPacking, gains: GroupGains) -> Listed
+// else are together below 2 to the power of n. An offset fits an int32, and a gain is finite. The sums agree with dBTG
+// and the gains: those that are present are the finite ones among the channels that have both parts, which the powers
+// say, modulo 2 to the power of their number; each has the pattern of its addition, and an absent one has 0. One loop
+// goes over all of this; it has no early way out and compares no place with n, so that the compiler tests several places
+// at a time.
+fn places(group: GroupPacking, gains: GroupGains, total: LevelHeld, sums: GainSums) -> Listed
     ensures { λ r. ⌜ (r .offsets ≡ goodFrom isOffset isNoOffset (group .n) 0 (group .offsets))
-        × (r .gains ≡ goodFrom isFinite isPlusZero (gains .n) 0 (gains .values)) ⌝ }
+        × (r .gains ≡ goodFrom isFinite isPlusZero (gains .n) 0 (gains .values))
+        × (r .sums ≡ agree total gains sums) ⌝ }
 {
     let offsets = group.offsets;
     let decibels = gains.values;
+    let present = sums.present;
+    let added = sums.values;
+    let base = total.value;
     let mut small = true;
     let mut bounded = true;
+    let mut alike = true;
     let mut a = 0u32;
     let mut b = 0u32;
+    let mut marked = 0u32;
+    let mut finites = 0u32;
     let mut i = 0;
     while i < 16 {
         let bit = power(i);
         let x = offsets[i];
         let z = decibels[i];
+        let there = present[i];
+        let sum = base + z;
         small = small & (x < 0x8000_0000);
         bounded = bounded & finite(z);
+        alike = alike & same(added[i], kept(there, sum));
         a += only(x != 0, bit);
         b += only(!plus_zero(z), bit);
+        marked += only(there, bit);
+        finites += only(finite(sum), bit);
         i += 1;
     }
     Listed {
         offsets: small & within(a, group.n),
         gains: bounded & within(b, gains.n),
+        sums: alike & (marked == finites % power(channels(total, gains))),
     }
 }
 
@@ -224,16 +259,19 @@ impl Values {
             & good_head(group)
     }
 
-    // The other half: whether each of the three lists has at most 16 channels and holds only what it may.
+    // The other half: whether each of the three lists has at most 16 channels and holds only what it may, and whether
+    // the sums agree with their parts.
     pub fn good_lists(self) -> bool
         ensures { λ r. ⌜ r ≡ goodLists self ⌝ }
     {
         let group = self.group;
         let frequencies = self.frequencies;
         let gains = self.gains;
-        let lists = places(group, gains);
+        let sums = self.sums;
+        let lists = places(group, gains, self.total_gain, sums);
         good_list(group.n, lists.offsets)
             & good_list(frequencies.n, hertz_places(frequencies))
             & good_list(gains.n, lists.gains)
+            & lists.sums
     }
 }

@@ -1,7 +1,7 @@
 // The channel state: the values that chunks have set, by value.
 ghost use mathlib.Core.Path.{_≡_};
-ghost use Rattle.body.specs.Table.{none};
-ghost use Rattle.state.specs.State.{built, emptied, withValues, withMark};
+ghost use Rattle.body.specs.Table.{totalGain, gains, none};
+ghost use Rattle.state.specs.State.{built, setIn, emptied, withValues, withMark};
 use body::BandHeld;
 use body::GroupGains;
 use body::GroupHertz;
@@ -10,8 +10,13 @@ use body::Held;
 use body::LevelHeld;
 
 pub mod good;
+pub mod sums;
 
-// The values that chunks have set since the step was last regained, each absent or present.
+pub use sums::GainSums;
+pub use sums::no_sums;
+
+// The values that chunks have set since the step was last regained, each absent or present, and the sums that follow
+// from two of them.
 pub struct Values {
     // SIQP: 1 for I before Q
     pub packing: Held,
@@ -35,6 +40,8 @@ pub struct Values {
     pub frequencies: GroupHertz,
     // GRG_
     pub gains: GroupGains,
+    // dBTG and GRG_ added, for each channel
+    pub sums: GainSums,
 }
 
 // The channel state: the values, and the start mark.
@@ -92,6 +99,7 @@ impl Values {
     {
         let frequencies = self.frequencies;
         let gains = self.gains;
+        let sums = self.sums;
         Values {
             packing: number_rebuilt(self.packing),
             rate: number_rebuilt(self.rate),
@@ -104,7 +112,29 @@ impl Values {
             group: packing_rebuilt(self.group),
             frequencies,
             gains,
+            sums,
         }
+    }
+
+    // The values with another dBTG, and the sums that follow from it.
+    pub fn with_total_gain(mut self, total: LevelHeld) -> Self
+        ensures { λ r. ⌜ r ≡ setIn totalGain total self ⌝ }
+    {
+        let decibels = self.gains;
+        let sums = sums::sums_of(total, decibels);
+        self.total_gain = total;
+        self.sums = sums;
+        self
+    }
+
+    // The values with other gains, and the sums that follow from them.
+    pub fn with_gains(mut self, decibels: GroupGains) -> Self
+        ensures { λ r. ⌜ r ≡ setIn gains decibels self ⌝ }
+    {
+        let sums = sums::sums_of(self.total_gain, decibels);
+        self.gains = decibels;
+        self.sums = sums;
+        self
     }
 
     // Every value absent.
@@ -123,6 +153,7 @@ impl Values {
             group: body::no_packing(),
             frequencies: body::no_hertz(),
             gains: body::no_gains(),
+            sums: no_sums(),
         }
     }
 }

@@ -1,4 +1,4 @@
--- The loops promise the places of each list; with each count's test they are the test of the lists.
+-- The loops promise the places of each list, and the sums; with each count's test they are the test of the lists.
 use borrow.Author.Needs.{needs}
 use Rattle.state.specs.Good.{goodLists}
 use Rattle.state.proofs.Values.good_lists.Statement.{statement}
@@ -22,9 +22,10 @@ good-list-requires-3 c κs = search needs
 returns : tie.Need-returns
 unfolding goodLists
 returns c =
-    let h = c .before .before in
+    let g = c .before in
+    let h = g .before .before in
     let p = h .before .before .places .ensures in
-    rw (c .good-list3 .ensures, c .before .good-list2 .ensures, h .hertz-places .ensures, h .before .good-list .ensures, p .0, p .1)
+    rw (g .good-list3 .ensures, g .before .good-list2 .ensures, h .hertz-places .ensures, h .before .good-list .ensures, p .0, p .1, p .2)
 
 pub good-lists-spec : {M : Type 1} → statement M
 good-lists-spec =

@@ -1,5 +1,7 @@
 -- The empty values are their parts put together, and each call promises the absent value of one part.
 use borrow.Author.Needs.{needs}
+use Rattle.body.specs.Groups.{noGains}
+use Rattle.state.proofs.Summed.{no-level-sums}
 use Rattle.state.proofs.Values.none.Statement.{statement}
 use Rattle.state.proofs.Values.none.Tie as tie
 
@@ -36,20 +38,26 @@ no-hertz-requires c κs = search needs
 no-gains-requires : tie.Need-no-gains-requires
 no-gains-requires c κs = search needs
 
+no-sums-requires : tie.Need-no-sums-requires
+no-sums-requires c κs = search needs
+
 returns : tie.Need-returns
 returns c =
+    let g = c .before in
     rw (
-      c .no-gains .ensures,
-      c .before .no-hertz .ensures,
-      c .before .before .no-packing .ensures,
-      c .before .before .before .no-level3 .ensures,
-      c .before .before .before .before .no-level2 .ensures,
-      c .before .before .before .before .before .no-level .ensures,
-      c .before .before .before .before .before .before .no-number4 .ensures,
-      c .before .before .before .before .before .before .before .no-number3 .ensures,
-      c .before .before .before .before .before .before .before .before .no-band .ensures,
-      c .before .before .before .before .before .before .before .before .before .no-number2 .ensures,
-      c .before .before .before .before .before .before .before .before .before .before .no-number .ensures,
+      c .no-sums .ensures,
+      ← no-level-sums noGains,
+      g .no-gains .ensures,
+      g .before .no-hertz .ensures,
+      g .before .before .no-packing .ensures,
+      g .before .before .before .no-level3 .ensures,
+      g .before .before .before .before .no-level2 .ensures,
+      g .before .before .before .before .before .no-level .ensures,
+      g .before .before .before .before .before .before .no-number4 .ensures,
+      g .before .before .before .before .before .before .before .no-number3 .ensures,
+      g .before .before .before .before .before .before .before .before .no-band .ensures,
+      g .before .before .before .before .before .before .before .before .before .no-number2 .ensures,
+      g .before .before .before .before .before .before .before .before .before .before .no-number .ensures,
     )
 
 pub none-spec : {M : Type 1} → statement M
@@ -67,4 +75,5 @@ none-spec =
     no-packing-requires
     no-hertz-requires
     no-gains-requires
+    no-sums-requires
     returns)

@@ -1,18 +1,10 @@
 -- At most 16 places are used, so the power is the definition's.
-use Prim.Native.Nat.{ℕ, _≤_}
-use mathlib.Core.Path.{_≡_, refl}
-use mathlib.Core.Bool.{Bool, true, false}
-use native.Mathlib.Omega.{arith}
+use mathlib.Core.Path.{refl}
 use borrow.Author.Needs.{needs}
-use borrow.Author.Tests.{ltb-true}
 use lib.Dec.{ltb}
-use Rattle.num.specs.Choice.{pick}
+use Rattle.state.proofs.Tests.{at-most}
 use Rattle.state.proofs.good.within.Statement.{statement}
 use Rattle.state.proofs.good.within.Tie as tie
-
-at-most : (n : ℕ) (t : Bool) → ltb n 16 ≡ t → pick t n 16 ≤ 16
-at-most n true e = let k = ltb-true n 16 e in omega arith
-at-most n false e = omega arith
 
 used-requires : tie.Need-used-requires
 used-requires c κs = search needs
