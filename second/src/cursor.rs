@@ -49,13 +49,16 @@ pub struct AnyState {
     pub group: HeldGroup,
     pub frequencies: HeldList<i64>,
     pub gains: HeldList<u32>,
+    /// For each channel the sum of dBTG and its gain.
+    pub sums: [Held<u32>; MOST_CHANNELS],
     pub mark: bool,
 }
 
 impl AnyState {
     /// Whether the body table allows every value that is present, and 0
-    /// stands for every absent one and in every unused place of a list. A
-    /// float's 0 is the pattern 0, which -0 doesn't have.
+    /// stands for every absent one and in every unused place of a list; and
+    /// whether the sums are those of their parts. A float's 0 is the pattern 0,
+    /// which -0 doesn't have.
     pub fn is_good(&self) -> bool {
         good(self.packing, |number| number == 0 || number == 1)
             && good(self.rate, |rate| rate >= 1)
@@ -70,6 +73,17 @@ impl AnyState {
             && good_group(&self.group)
             && good_list(self.frequencies.n, &self.frequencies.values, |_| true)
             && good_list(self.gains.n, &self.gains.values, is_finite)
+            && (0..MOST_CHANNELS).all(|channel| self.good_sum(channel))
+    }
+
+    /// Whether a channel's sum is there just if dBTG and a gain of the channel
+    /// are and give a finite one, and then has its bits.
+    fn good_sum(&self, channel: usize) -> bool {
+        let gain = self.gains.values[channel];
+        let sum = f32::from_bits(self.total_gain.value) + f32::from_bits(gain);
+        let due = self.total_gain.present && channel < self.gains.n && sum.is_finite();
+        let Held { present, value } = self.sums[channel];
+        present == due && value == if due { sum.to_bits() } else { 0 }
     }
 
     /// A good state as the reader holds it.
@@ -96,6 +110,7 @@ impl AnyState {
             }),
             group_frequencies: listed(self.frequencies.n, self.frequencies.values),
             group_gains: listed(self.gains.n, self.gains.values),
+            group_sums: self.sums.map(shown),
         }
     }
 }

@@ -53,7 +53,7 @@ fn dump_ready(text: &mut String, ready: &Ready) {
     }
 }
 
-/// One line for each value that is present.
+/// One line for each value and each sum that is present.
 fn dump_state(text: &mut String, state: &State) {
     if let Some(packing) = state.single_packing {
         line(text, format_args!("  SIQP {}", packing.number()));
@@ -96,6 +96,11 @@ fn dump_state(text: &mut String, state: &State) {
     if let Some(list) = &state.group_gains {
         let _ = write!(text, "  GRG_ {}", list.channels());
         patterns(text, list.values());
+    }
+    for (channel, sum) in state.group_sums.iter().enumerate() {
+        if let Some(pattern) = sum {
+            line(text, format_args!("  sum {channel} {pattern:08X}"));
+        }
     }
 }
 

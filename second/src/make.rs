@@ -25,7 +25,7 @@ pub struct Maker {
 /// A recipe; its second argument tells the turns of one recipe apart.
 type Scene = fn(&mut Maker, usize);
 
-const SCENES: [Scene; 13] = [
+const SCENES: [Scene; 14] = [
     Maker::soup,
     Maker::lacks,
     Maker::ready,
@@ -39,6 +39,7 @@ const SCENES: [Scene; 13] = [
     Maker::orders,
     Maker::marks,
     Maker::large,
+    Maker::sums,
 ];
 
 /// The stream of this seed.

@@ -17,6 +17,7 @@ pub fn all() -> Vec<(&'static str, Vec<u8>)> {
         ("whole.pxgf", whole()),
         ("dropped-link.pxgf", dropped_link()),
         ("group.pxgf", group()),
+        ("gains.pxgf", gains()),
         ("little.pxgf", little()),
         ("damaged.pxgf", damaged()),
         ("notes.pxgf", notes()),
@@ -109,6 +110,34 @@ fn group() -> Vec<u8> {
         .group_packing(0, 1, &[2, 0, 6, 4])
         .shorts(Kind::Gsnc, NOON + 3_200, &shorts)
         .shorts(Kind::Gsnc, NOON + 4_800, &shorts[..14]);
+    stream.into_bytes()
+}
+
+/// A total gain and the gains of three channels, of which one or both change
+/// before each group chunk: the total gain by itself, both so large that a sum
+/// is past all floats, the total gain malformed, and gains for two channels.
+fn gains() -> Vec<u8> {
+    let numbers = [1, -1, 2, -2, 3, -3];
+    let mut stream = Composer::new(Order::Big);
+    stream
+        .group_packing(1, 3, &[0, 1, 2])
+        .long(Kind::Sr, 1_250 * KILOHERTZ)
+        .group_frequencies(&[100 * MEGAHERTZ, 101 * MEGAHERTZ, 102 * MEGAHERTZ])
+        .group_gains(&[0.5, -0.0, -20.0])
+        .level(Kind::Dbtg, 20.0)
+        .shorts(Kind::Gsnc, NOON, &numbers)
+        .level(Kind::Dbtg, -0.0)
+        .shorts(Kind::Gsnc, NOON + 800, &numbers)
+        .level(Kind::Dbtg, f32::MAX)
+        .group_gains(&[f32::MAX, f32::MIN, 0.5])
+        .shorts(Kind::Gsnc, NOON + 1_600, &numbers)
+        .level(Kind::Dbtg, f32::INFINITY)
+        .shorts(Kind::Gsnc, NOON + 2_400, &numbers)
+        .level(Kind::Dbtg, 20.0)
+        .group_gains(&[0.25, -1.5])
+        .shorts(Kind::Gsnc, NOON + 3_200, &numbers)
+        .int(Kind::Siqp, 1)
+        .shorts(Kind::Ssnc, NOON + 4_000, &[4, -4]);
     stream.into_bytes()
 }
 

@@ -1,6 +1,6 @@
 //! The values that chunks set and data chunks are read with.
 
-use crate::body::{Body, GroupPacking, Level, Packing, PerChannel};
+use crate::body::{Body, GroupPacking, Level, Packing, PerChannel, MOST_CHANNELS};
 use crate::kind::{DataForm, Kind, Width};
 
 /// Each value is absent until a well-formed chunk sets it.
@@ -18,6 +18,9 @@ pub struct State {
     pub group_packing: Option<GroupPacking>,
     pub group_frequencies: Option<PerChannel<i64>>,
     pub group_gains: Option<PerChannel<u32>>,
+    /// For each channel dBTG plus its gain, where both are present and their
+    /// sum is finite. `set` and `remove` keep them to their parts.
+    pub group_sums: [Option<u32>; MOST_CHANNELS],
 }
 
 /// What a well-formed data chunk waits for.
@@ -48,11 +51,17 @@ impl State {
             Body::GroupBandwidth(bandwidth) => self.group_bandwidth = Some(bandwidth),
             Body::CentreFrequency(frequency) => self.centre_frequency = Some(frequency),
             Body::Level(Level::FullScale(level)) => self.full_scale = Some(level),
-            Body::Level(Level::TotalGain(gain)) => self.total_gain = Some(gain),
+            Body::Level(Level::TotalGain(gain)) => {
+                self.total_gain = Some(gain);
+                self.add_up();
+            }
             Body::Level(Level::FloatFullScale(level)) => self.float_full_scale = Some(level),
             Body::GroupPacking(packing) => self.group_packing = Some(packing),
             Body::GroupFrequencies(list) => self.group_frequencies = Some(list),
-            Body::GroupGains(list) => self.group_gains = Some(list),
+            Body::GroupGains(list) => {
+                self.group_gains = Some(list);
+                self.add_up();
+            }
             Body::Data { .. }
             | Body::FileStart(_)
             | Body::HeaderEnd
@@ -71,11 +80,17 @@ impl State {
             Kind::Gcbw => self.group_bandwidth = None,
             Kind::Cf => self.centre_frequency = None,
             Kind::Dbfs => self.full_scale = None,
-            Kind::Dbtg => self.total_gain = None,
+            Kind::Dbtg => {
+                self.total_gain = None;
+                self.add_up();
+            }
             Kind::Ffs => self.float_full_scale = None,
             Kind::Giqp => self.group_packing = None,
             Kind::Gcf => self.group_frequencies = None,
-            Kind::Grg => self.group_gains = None,
+            Kind::Grg => {
+                self.group_gains = None;
+                self.add_up();
+            }
             Kind::Ssnc
             | Kind::Ssnr
             | Kind::Sfnc
@@ -86,6 +101,17 @@ impl State {
             | Kind::Eofh
             | Kind::Iqdc
             | Kind::Text => {}
+        }
+    }
+
+    /// Makes the sums anew. Each is one addition of floats, rounded once.
+    fn add_up(&mut self) {
+        self.group_sums = [None; MOST_CHANNELS];
+        if let (Some(total), Some(gains)) = (self.total_gain, &self.group_gains) {
+            for (slot, gain) in self.group_sums.iter_mut().zip(gains.values()) {
+                let sum = f32::from_bits(total) + f32::from_bits(*gain);
+                *slot = sum.is_finite().then_some(sum.to_bits());
+            }
         }
     }
 
@@ -108,13 +134,18 @@ impl State {
     }
 
     /// The state as a group chunk shows it: lists made for another number of
-    /// channels don't belong to it.
+    /// channels don't belong to it, nor do sums with such gains.
     pub fn shown_in_group(&self, channels: usize) -> State {
+        let group_gains = self.group_gains.filter(|list| list.channels() == channels);
         State {
             group_frequencies: self
                 .group_frequencies
                 .filter(|list| list.channels() == channels),
-            group_gains: self.group_gains.filter(|list| list.channels() == channels),
+            group_gains,
+            group_sums: match group_gains {
+                Some(_) => self.group_sums,
+                None => [None; MOST_CHANNELS],
+            },
             ..*self
         }
     }

@@ -4,6 +4,7 @@
 //! made at will are answered.
 
 mod cursors;
+mod sums;
 
 use std::collections::BTreeMap;
 
@@ -140,12 +141,14 @@ impl Met {
     }
 }
 
-/// The answers of the file check, of copying, of a step and of writing.
+/// The answers of the file check, of copying, of a step and of writing, and the
+/// sorts of sums.
 fn expected() -> impl Iterator<Item = String> {
-    let calls: [(&str, &[&str]); 4] = [
+    let calls: [(&str, &[&str]); 5] = [
         ("check", &["good", "41", "42", "43", "44"]),
         ("copy", &["count", "2", "3", "33", "34", "35"]),
         ("step", &["item", "end", "2", "3"]),
+        ("sum", &sums::SORTS),
         (
             "write",
             &["next", "2", "11", "12", "13", "14", "15", "31", "32"],
@@ -191,6 +194,7 @@ pub fn trial(stream: &[u8], met: &mut Met) -> String {
     met.verdicts
         .add(&text)
         .expect("the lines are those of a dump");
+    sums::meet(stream, met);
     for order in [Order::Big, Order::Little] {
         let answer = match check_file(order, stream) {
             Ok(items) => {

@@ -94,6 +94,30 @@ pub fn finite(rng: &mut Rng) -> u32 {
     }
 }
 
+/// Finite, for dBTG and gains: often one of those whose sums overflow, cancel,
+/// keep a sign of zero, are subnormal or are rounded.
+pub fn gain(rng: &mut Rng) -> u32 {
+    const ZEROS: [u32; 2] = [0x0000_0000, 0x8000_0000];
+    const TELLING: [u32; 11] = [
+        0x7F7F_FFFF, // largest
+        0xFF7F_FFFF,
+        0x7300_0000, // half a step from the largest to the infinite
+        0x72FF_FFFF, // a little less than that
+        0x0000_0001, // smallest subnormal
+        0x0080_0000, // smallest normal
+        0x41A0_0000, // 20
+        0xC1A0_0000, // -20
+        0x3FC0_0000, // 1.5
+        0x3F80_0000, // 1
+        0x4B80_0000, // 2^24, where floats begin to be 2 apart
+    ];
+    match rng.below(6) {
+        0 => rng.pick(&ZEROS),
+        1..=3 => rng.pick(&TELLING),
+        _ => finite(rng),
+    }
+}
+
 /// Finite and above 0.
 pub fn above_zero(rng: &mut Rng) -> u32 {
     (finite(rng) & 0x7FFF_FFFF).max(1)

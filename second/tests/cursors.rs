@@ -1,7 +1,7 @@
 //! Steps and copies at cursors made at will.
 
 use second::compose::Composer;
-use second::cursor::{AnyState, Cursor, Held, HeldGroup};
+use second::cursor::{AnyState, Cursor, Held, HeldGroup, HeldList};
 use second::kind::Kind;
 use second::order::Order;
 use second::{Cause, Item, Verdict};
@@ -115,6 +115,85 @@ fn a_begun_sync_word_keeps_the_step() {
     };
     assert_eq!(step.item, Some(skipped));
     assert_eq!((step.place, step.in_step), (stream.len(), false));
+}
+
+/// A rate, a dBTG of 20, gains of 1.5 and -0, and the sums 21.5 and 20.
+fn summed() -> AnyState {
+    let held = |value| Held {
+        present: true,
+        value,
+    };
+    let mut state = rated(1);
+    state.total_gain = held(0x41A0_0000);
+    state.gains = HeldList {
+        n: 2,
+        values: [0; 16],
+    };
+    state.gains.values[..2].copy_from_slice(&[0x3FC0_0000, 0x8000_0000]);
+    state.sums[..2].copy_from_slice(&[held(0x41AC_0000), held(0x41A0_0000)]);
+    state
+}
+
+#[test]
+fn sums_of_the_state_are_shown() {
+    let stream = stream();
+    let step = at(20, true, summed()).step(Order::Big, &stream).unwrap();
+    let Some(Item::Chunk {
+        verdict: Verdict::Ready(ready),
+        ..
+    }) = step.item
+    else {
+        panic!("a ready chunk stands there")
+    };
+    let sums = ready.state.group_sums;
+    assert_eq!(sums[..2], [Some(0x41AC_0000), Some(0x41A0_0000)]);
+    assert_eq!(sums[2..], [None; 14]);
+}
+
+/// Each of them differs in one sum alone.
+#[test]
+fn sums_are_held_to_their_parts() {
+    let stream = stream();
+    for (channel, present, value) in [
+        (0, true, 0x41A8_0000),
+        (0, true, 0x41AC_0001),
+        (0, false, 0),
+        (0, false, 0x41AC_0000),
+        (1, true, 0x7FC0_0000),
+        (1, true, 0xC1A0_0000),
+        (2, true, 0x41A0_0000),
+        (2, true, 0),
+        (2, false, 0x8000_0000),
+        (15, true, 0x41A0_0000),
+        (15, false, 1),
+    ] {
+        let mut state = summed();
+        state.sums[channel] = Held { present, value };
+        assert_eq!(number(at(20, true, state), &stream), 3);
+        assert_eq!(number(at(20, false, state), &stream), 0);
+        assert_eq!(number(at(99, true, state), &stream), 2);
+    }
+}
+
+/// Each of them differs in one part alone.
+#[test]
+fn parts_are_held_to_their_sums() {
+    let stream = stream();
+    let changes: [fn(&mut AnyState); 6] = [
+        |state| state.total_gain.value = 0x41A0_0001,
+        |state| state.total_gain = Held::default(),
+        |state| state.gains.values[0] = 0x3F80_0000,
+        // 20 + 0 is 20 as well, and so is 20 + -0.
+        |state| state.gains.values[1] = 0x0000_0000,
+        |state| state.gains.n = 3,
+        |state| state.gains = HeldList::default(),
+    ];
+    let numbers = changes.map(|change| {
+        let mut state = summed();
+        change(&mut state);
+        number(at(20, true, state), &stream)
+    });
+    assert_eq!(numbers, [3, 3, 3, 0, 3, 3]);
 }
 
 #[test]

@@ -4,6 +4,7 @@ use second::dump::dump;
 use second::filecheck::check_file;
 use second::list::list;
 use second::make::{make, MOST_BYTES};
+use second::trials::{streams, trial, Met};
 use second::utf8::{judge_strings, make_strings};
 use second::verdicts::{table, Verdicts};
 use second::{find_order, Order, Walk};
@@ -64,6 +65,19 @@ fn limits_and_sameness() {
         }
     }
     assert_eq!(long, 3);
+}
+
+/// The answers of calls and the sorts of sums, too, by the streams that are
+/// stored.
+#[test]
+fn every_answer_of_a_trial_is_met() {
+    let mut met = Met::default();
+    for stream in streams(1, 330, 800) {
+        trial(&stream, &mut met);
+    }
+    let none: [String; 0] = [];
+    assert_eq!(met.missing(), none);
+    assert_eq!(met.outside(), none);
 }
 
 #[test]

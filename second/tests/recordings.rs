@@ -90,7 +90,79 @@ fn group() {
             "  samples 3 4 -5 50 -6 60",
         ]
     );
+    // 24 plus 0, -0.5, 0.25 and 1.
+    assert!(text.contains(
+        "  GRG_ 4 00000000 BF000000 3E800000 3F800000\n\
+         \x20 sum 0 41C00000\n\
+         \x20 sum 1 41BC0000\n\
+         \x20 sum 2 41C20000\n\
+         \x20 sum 3 41C80000\n\
+         \x20 samples 0 4 10"
+    ));
     assert!(text.contains("GSNC 36 bad 16\nend 12\n"));
+}
+
+/// The sums: 20 with 0.5, -0 and -20; -0 with the same; the largest float with
+/// itself, which gives none, with its opposite, and with 0.5, which is lost in
+/// it; none without dBTG, and none in a group of three for gains of two; and 20
+/// with 0.25 and -1.5.
+#[test]
+fn gains() {
+    let text = dump(&recording("gains.pxgf"));
+    let shows = |line: &&str| {
+        let words = ["chunk", "  dBTG", "  GIQP", "  GRG_", "  sum"];
+        words.iter().any(|word| line.starts_with(word))
+    };
+    let lines: Vec<&str> = text.lines().filter(shows).collect();
+    assert_eq!(
+        lines,
+        [
+            "chunk 0 GIQP 24 ok",
+            "chunk 36 SR__ 8 ok",
+            "chunk 56 GCF_ 28 ok",
+            "chunk 96 GRG_ 16 ok",
+            "chunk 124 dBTG 4 ok",
+            "chunk 140 GSNC 20 ok",
+            "  dBTG 41A00000",
+            "  GIQP 3 1 3 0 1 2",
+            "  GRG_ 3 3F000000 80000000 C1A00000",
+            "  sum 0 41A40000",
+            "  sum 1 41A00000",
+            "  sum 2 00000000",
+            "chunk 172 dBTG 4 ok",
+            "chunk 188 GSNC 20 ok",
+            "  dBTG 80000000",
+            "  GIQP 3 1 3 0 1 2",
+            "  GRG_ 3 3F000000 80000000 C1A00000",
+            "  sum 0 3F000000",
+            "  sum 1 80000000",
+            "  sum 2 C1A00000",
+            "chunk 220 dBTG 4 ok",
+            "chunk 236 GRG_ 16 ok",
+            "chunk 264 GSNC 20 ok",
+            "  dBTG 7F7FFFFF",
+            "  GIQP 3 1 3 0 1 2",
+            "  GRG_ 3 7F7FFFFF FF7FFFFF 3F000000",
+            "  sum 1 00000000",
+            "  sum 2 7F7FFFFF",
+            "chunk 296 dBTG 4 bad 12",
+            "chunk 312 GSNC 20 ok",
+            "  GIQP 3 1 3 0 1 2",
+            "  GRG_ 3 7F7FFFFF FF7FFFFF 3F000000",
+            "chunk 344 dBTG 4 ok",
+            "chunk 360 GRG_ 12 ok",
+            "chunk 384 GSNC 20 ok",
+            "  dBTG 41A00000",
+            "  GIQP 3 1 3 0 1 2",
+            "chunk 416 SIQP 4 ok",
+            "chunk 432 SSNC 12 ok",
+            "  dBTG 41A00000",
+            "  GIQP 3 1 3 0 1 2",
+            "  GRG_ 2 3E800000 BFC00000",
+            "  sum 0 41A20000",
+            "  sum 1 41940000",
+        ]
+    );
 }
 
 #[test]

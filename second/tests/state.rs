@@ -238,7 +238,7 @@ fn all_values_in_their_order() {
         .patterns(Kind::Gfnc, -1, &[1, 2]);
     let state = "SIQP 0, SR__ 9223372036854775807, BW__ 5 0, GCBW 4, CF__ -3, \
                  dBFS BF800000, dBTG 3F800000, FFS_ 40000000, GIQP 1 1 1 0, \
-                 GCF_ 1 -9223372036854775808, GRG_ 1 80000000";
+                 GCF_ 1 -9223372036854775808, GRG_ 1 80000000, sum 0 3F800000";
     assert_eq!(
         shown(&stream, 11),
         format!("time -9223372036854775808, mark 1, {state}, samples 0 2 FF800000 7FC00001")

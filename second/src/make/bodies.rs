@@ -38,7 +38,8 @@ pub fn good(rng: &mut Rng, order: Order, kind: Kind) -> Vec<u8> {
             fields.long(bandwidth).long(values::long(rng)).bytes()
         }
         Kind::Cf => fields.long(values::long(rng)).bytes(),
-        Kind::Dbfs | Kind::Dbtg => fields.word(values::finite(rng)).bytes(),
+        Kind::Dbfs => fields.word(values::finite(rng)).bytes(),
+        Kind::Dbtg => fields.word(values::gain(rng)).bytes(),
         Kind::Ffs => fields.word(values::above_zero(rng)).bytes(),
         Kind::Giqp => {
             let n = values::channels(rng) as i32;
@@ -75,7 +76,7 @@ pub fn frequencies(rng: &mut Rng, order: Order, n: usize) -> Vec<u8> {
 pub fn gains(rng: &mut Rng, order: Order, n: usize) -> Vec<u8> {
     let fields = Fields::new(order).int(n as i32);
     (0..n)
-        .fold(fields, |f, _| f.word(values::finite(rng)))
+        .fold(fields, |f, _| f.word(values::gain(rng)))
         .bytes()
 }
 

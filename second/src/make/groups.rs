@@ -1,4 +1,5 @@
-//! Group layouts that cover their chunks, and some that don't.
+//! Group layouts that cover their chunks, and some that don't; and the sums of
+//! a group's gains.
 
 use super::{bodies, Maker};
 use crate::kind::Kind;
@@ -75,6 +76,7 @@ impl Maker {
     pub(super) fn groups(&mut self, turn: usize) {
         self.good(Kind::Sr);
         self.good(Kind::Ffs);
+        self.good(Kind::Dbtg);
         for i in 0..5 {
             let layout = if i % 2 == 0 {
                 self.layout()
@@ -98,5 +100,35 @@ impl Maker {
                 self.good(Kind::Ssnr);
             }
         }
+    }
+
+    /// dBTG and gains set, replaced, removed and lost, and what a group chunk
+    /// and a single one then show.
+    pub(super) fn sums(&mut self, _turn: usize) {
+        let layout = self.layout();
+        let channels = layout.offsets.len();
+        self.good(Kind::Sr);
+        self.layout_chunk(&layout);
+        self.good(Kind::Dbtg);
+        self.gains(channels);
+        for _ in 0..7 {
+            // Any layout covers a chunk without pairs.
+            self.data(Kind::Gsnc, 0);
+            self.data(Kind::Ssnr, 0);
+            match self.rng.below(10) {
+                0..=2 => self.good(Kind::Dbtg),
+                3..=5 => self.gains(channels),
+                // Most often for another number of channels.
+                6 => self.good(Kind::Grg),
+                7 => self.bad_somehow(Kind::Dbtg),
+                8 => self.bad_somehow(Kind::Grg),
+                _ => {
+                    self.gap();
+                    self.good(Kind::Sr);
+                    self.layout_chunk(&layout);
+                }
+            }
+        }
+        self.data(Kind::Gsnc, layout.pairs);
     }
 }

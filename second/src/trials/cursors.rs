@@ -2,6 +2,7 @@
 //! stream and past it, with states that are good and that aren't.
 
 use super::{Digest, Met, PATTERN, ROOM, SHORT};
+use crate::body::MOST_CHANNELS;
 use crate::cursor::{AnyState, Cursor, Held, HeldGroup, HeldList};
 use crate::order::Order;
 use crate::reader::{Item, Verdict, NO_COVER};
@@ -136,6 +137,17 @@ fn group(n: usize, iq: bool, increment: u32, offsets: &[(usize, u32)]) -> HeldGr
     }
 }
 
+/// A sum for each of the first channels, where there is one.
+fn sums(values: &[Option<f32>]) -> [Held<u32>; MOST_CHANNELS] {
+    let mut sums = [absent(0); MOST_CHANNELS];
+    for (sum, value) in sums.iter_mut().zip(values) {
+        if let Some(value) = value {
+            *sum = present(value.to_bits());
+        }
+    }
+    sums
+}
+
 /// A good state in which every value is present.
 fn full() -> AnyState {
     AnyState {
@@ -150,18 +162,40 @@ fn full() -> AnyState {
         group: group(2, true, 2, &[(1, 1)]),
         frequencies: list(2, &[(0, 5), (1, -5)]),
         gains: list(2, &[(0, 1.5f32.to_bits()), (1, MINUS_ZERO)]),
+        sums: sums(&[Some(21.5), Some(20.0)]),
         mark: true,
     }
 }
 
+/// The full state with a change.
+fn with(change: &dyn Fn(&mut AnyState)) -> AnyState {
+    let mut state = full();
+    change(&mut state);
+    state
+}
+
+/// The full state with another dBTG, other gains and other sums.
+fn added(total: f32, gains: &[f32], values: &[Option<f32>]) -> AnyState {
+    let gains: Vec<(usize, u32)> = gains
+        .iter()
+        .map(|gain| gain.to_bits())
+        .enumerate()
+        .collect();
+    AnyState {
+        total_gain: present(total.to_bits()),
+        gains: list(gains.len(), &gains),
+        sums: sums(values),
+        ..full()
+    }
+}
+
+fn states() -> Vec<AnyState> {
+    [values_at_will(), wrong_sums(), right_sums()].concat()
+}
+
 /// The full state and the empty one; the full one with one value that no
 /// state may hold; and it with one at the edge of what a state may hold.
-fn states() -> Vec<AnyState> {
-    let with = |change: &dyn Fn(&mut AnyState)| {
-        let mut state = full();
-        change(&mut state);
-        state
-    };
+fn values_at_will() -> Vec<AnyState> {
     let sixteen: Vec<(usize, u32)> = (0..16).map(|c| (c, c as u32)).collect();
     vec![
         full(),
@@ -208,16 +242,62 @@ fn states() -> Vec<AnyState> {
     ]
 }
 
+/// Sums that aren't those of their parts: a stale one, one too few, one too
+/// many, -0 in place of 0, a part that is absent, and some that aren't finite.
+fn wrong_sums() -> Vec<AnyState> {
+    let (max, min) = (f32::MAX, f32::MIN);
+    vec![
+        with(&|s| s.sums[0] = present(21.0f32.to_bits())),
+        with(&|s| s.sums[0] = absent(0)),
+        with(&|s| s.sums[2] = present(20.0f32.to_bits())),
+        with(&|s| s.sums[2] = absent(MINUS_ZERO)),
+        added(20.0, &[1.5, -20.0], &[Some(21.5), Some(-0.0)]),
+        with(&|s| s.total_gain = absent(0)),
+        added(max, &[max, min], &[Some(f32::INFINITY), Some(0.0)]),
+        with(&|s| s.sums[1] = present(NAN)),
+        with(&|s| s.sums[15] = present(20.0f32.to_bits())),
+        with(&|s| s.gains = list(0, &[])),
+    ]
+}
+
+/// Sums at the edges of what floats add up to, and none where a part is
+/// absent.
+fn right_sums() -> Vec<AnyState> {
+    let (max, min, least) = (f32::MAX, f32::MIN, f32::from_bits(1));
+    let sixteen: Vec<f32> = (0..16u8).map(f32::from).collect();
+    let from_twenty: Vec<Option<f32>> = (20..36u8).map(|sum| Some(sum.into())).collect();
+    vec![
+        added(20.0, &[1.5, -20.0], &[Some(21.5), Some(0.0)]),
+        added(-0.0, &[1.5, -0.0], &[Some(1.5), Some(-0.0)]),
+        added(max, &[max, min], &[None, Some(0.0)]),
+        added(
+            least,
+            &[least, 0.0],
+            &[Some(f32::from_bits(2)), Some(least)],
+        ),
+        with(&|s| (s.total_gain, s.sums) = (absent(0), sums(&[]))),
+        with(&|s| (s.gains, s.sums) = (list(0, &[]), sums(&[]))),
+        // Both lie in the middle of two floats, and the even one is taken.
+        added(
+            16_777_216.0,
+            &[1.0, 3.0],
+            &[Some(16_777_216.0), Some(16_777_220.0)],
+        ),
+        added(20.0, &sixteen, &from_twenty),
+    ]
+}
+
 #[cfg(test)]
 mod tests {
     use super::*;
 
     #[test]
-    fn the_first_two_states_and_the_last_five_are_good() {
+    fn which_states_are_good() {
         let good: Vec<bool> = states().iter().map(AnyState::is_good).collect();
-        assert_eq!(good.len(), 41);
+        assert_eq!(good.len(), 59);
         for (i, good) in good.into_iter().enumerate() {
-            assert_eq!(good, !(2..36).contains(&i), "state {i}");
+            let expected = matches!(i, 0 | 1 | 36..=40 | 51..=58);
+            assert_eq!(good, expected, "state {i}");
         }
     }
 }
