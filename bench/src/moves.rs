@@ -22,6 +22,9 @@ struct Hertz(usize, [i64; 16]);
 struct Gains(usize, [f32; 16]);
 
 #[repr(C)]
+struct Sums([bool; 16], [f32; 16]);
+
+#[repr(C)]
 struct State {
     numbers: [Held; 4],
     band: Band,
@@ -29,6 +32,7 @@ struct State {
     group: Packing,
     frequencies: Hertz,
     gains: Gains,
+    sums: Sums,
     mark: bool,
 }
 

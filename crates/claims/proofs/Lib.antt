@@ -22,3 +22,4 @@ pub mod Lister
 pub mod Empty
 pub mod Bench
 pub mod Allowed
+pub mod Totals

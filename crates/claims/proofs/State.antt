@@ -1,11 +1,15 @@
--- A state that was rebuilt, the empty state, one with other values or another mark, and whether a state is good, its values and its lists, are each one answer.
+-- A state that was rebuilt, the empty state, one with other values or another mark, values with another dBTG or other gains, no sums, and
+-- whether a state is good, its values and its lists, are each one answer.
 use mathlib.Core.Path.{sym, _∙_}
 use Rattle.state.proofs.State.rebuilt.Reads as rebuilt
 use Rattle.state.proofs.State.empty.Reads as empty
 use Rattle.state.proofs.State.with_values.Reads as with_values
 use Rattle.state.proofs.State.with_mark.Reads as with_mark
+use Rattle.state.proofs.Values.with_total_gain.Reads as with_total_gain
+use Rattle.state.proofs.Values.with_gains.Reads as with_gains
 use Rattle.state.proofs.Values.good_values.Reads as good_values
 use Rattle.state.proofs.Values.good_lists.Reads as good_lists
+use Rattle.state.proofs.sums.no_sums.Reads as no_sums
 use Rattle.claims.proofs.Promise.{OneAnswer}
 
 pub rebuilt-one-answer : OneAnswer rebuilt.Post
@@ -19,6 +23,15 @@ with-values-one-answer κs a r r′ s s′ p q = p ∙ sym q
 
 pub with-mark-one-answer : OneAnswer with_mark.Post
 with-mark-one-answer κs a r r′ s s′ p q = p ∙ sym q
+
+pub with-total-gain-one-answer : OneAnswer with_total_gain.Post
+with-total-gain-one-answer κs a r r′ s s′ p q = p ∙ sym q
+
+pub with-gains-one-answer : OneAnswer with_gains.Post
+with-gains-one-answer κs a r r′ s s′ p q = p ∙ sym q
+
+pub no-sums-one-answer : OneAnswer no_sums.Post
+no-sums-one-answer κs a r r′ s s′ p q = p ∙ sym q
 
 pub good-values-one-answer : OneAnswer good_values.Post
 good-values-one-answer κs a r r′ s s′ p q = p ∙ sym q

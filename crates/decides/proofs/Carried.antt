@@ -21,6 +21,7 @@ use Rattle.effect.proofs.Slots.{keeps, owns}
 use Rattle.reader.specs.Step.{newCursor, before, after, Fit}
 use Rattle.reader.specs.declared.Cursor.{Cursor}
 use Rattle.reader.proofs.Theorems.{new-fit}
+use Rattle.reader.proofs.Summed.{before-summed, after-summed}
 use Rattle.decides.specs.Last.{isSkipped, Last, nothing, set, lastAfter, valueBy, valueOf, lastValue, lastValues}
 use Rattle.decides.specs.Past.{found, past}
 use Rattle.decides.proofs.Past.{after-past}
@@ -79,8 +80,9 @@ module _ (o : Order) (s : List ℕ) (k : ℕ) where
   pub cursor-last : after k o s newCursor .«in_step» ≡ true → (x : Slot) → valueIn x (after k o s newCursor .state .values) ≡ lastValue o (take k (frames o s)) x
   cursor-last e x = rw e at (found-last x)
 
-  -- The same of all slots at once.
+  -- The same of all slots at once, and of the sums: they are those of the last dBTG and the last gains.
   pub found-values : found (after k o s newCursor) .values ≡ lastValues o (take k (frames o s))
   found-values =
       same-values (found (after k o s newCursor) .values) (lastValues o (take k (frames o s)))
+      (before-summed (after k o s newCursor .«in_step») (after k o s newCursor .state) (after-summed k o s newCursor refl)) refl
       (λ x. found-last x ∙ sym (in-built (lastValue o (take k (frames o s))) x))

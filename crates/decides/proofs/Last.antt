@@ -15,10 +15,12 @@ use Rattle.body.specs.Kind.{kindOf}
 use Rattle.body.specs.Table.{Slot, packing, rate, band, groupBand, centre, fullScale, totalGain, floatScale, group, frequencies, gains, Value, none, isSlot, Row, sets, marks, leaves, samples, unknown, row, setBy, shaped}
 use Rattle.body.specs.Verdict.{seen, verdictBy, verdict}
 use Rattle.body.specs.declared.kinds.Kind.{Kind}
-use Rattle.state.specs.State.{valueIn, built}
+use Rattle.state.specs.State.{valueIn, built, Summed}
+use Rattle.state.specs.Sums.{sumsOf}
 use Rattle.state.specs.declared.Values.{Values}
-use Rattle.state.proofs.Slots.{in-built, set-other, in-set, set-none}
+use Rattle.state.proofs.Slots.{in-built, set-other, in-set, sums-other, set-none}
 use Rattle.effect.specs.Ready.{hertzOf, gainsOf, inGroup}
+use Rattle.effect.proofs.Summed.{group-summed}
 use Rattle.decides.specs.Last.{isSkipped, Last, nothing, set, lastAfter, lastOf, Leaves, AllLeave, LastIs, NoneSince, valueBy, valueOf, lastValue, lastValues, groupShaped, shownBy, isCounted}
 
 -- ---- which chunk it is
@@ -108,11 +110,19 @@ module _ (x : Slot) (v : Values) where
   all-by : (t : Bool) → both t (isCounted x) ≡ false → valueIn x (pick t (inGroup v) v) ≡ valueIn x v
   all-by true e =
       let h = either-false (isSlot frequencies x) (isSlot gains x) e in
-      set-other gains _ _ x (h .1) ∙ set-other frequencies _ v x (h .0)
+      sums-other _ _ x ∙ set-other gains _ _ x (h .1) ∙ set-other frequencies _ v x (h .0)
   all-by false e = refl
 
 -- Values that are shown with a chunk of a kind, as those of the last chunks among some frames.
 module _ (o : Order) (k : Kind) (fs : List Frame) (shown : Values) (e : shown ≡ shownBy k (lastValues o fs)) where
+  shown-summed : (t : Bool) → Summed (pick t (inGroup (lastValues o fs)) (lastValues o fs))
+  shown-summed true = group-summed (lastValues o fs) refl
+  shown-summed false = refl
+
+  -- Every chunk shows the sums of the dBTG and the gains that it shows.
+  pub last-sums : shown .sums ≡ sumsOf (shown .«total_gain») (shown .gains)
+  last-sums = rw e (shown-summed (groupShaped (shaped k)))
+
   -- A group chunk shows the last frequencies and gains where their count is that of the last group packing, and else none.
   pub last-group : groupShaped (shaped k) ≡ true →
       (shown .frequencies ≡ hertzOf (lastValue o fs group .n) (lastValue o fs frequencies)) × (shown .gains ≡ gainsOf (lastValue o fs group .n) (lastValue o fs gains))

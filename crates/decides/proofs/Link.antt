@@ -3,14 +3,16 @@ use Prim.Native.Nat.{ℕ, _<_}
 use mathlib.Core.Path.{_≡_, refl, ap, sym, _∙_}
 use mathlib.Core.Bool.{Bool, true, false}
 use native.Mathlib.Omega.{arith}
-use lib.Ieee.{ofBits}
+use lib.Ieee.{ofBits, toBits}
 use lib.ListN.{take, drop}
 use Rattle.num.specs.Answer.{gives}
+use Rattle.num.specs.Choice.{each}
 use Rattle.num.specs.Number.{bytesOf}
 use Rattle.num.specs.declared.Order.the-variants.{Big}
 use Rattle.frame.specs.Frames.{framesBy, frames}
 use Rattle.frame.specs.Place.{starts, shows, gap}
 use Rattle.body.specs.Kind.{codeOf, known, kindIn, kindOf}
+use Rattle.body.specs.Lists.{upto}
 use Rattle.body.specs.Table.{centre, none, setBy}
 use Rattle.body.specs.declared.kinds.Kind.the-variants.{CF}
 use Rattle.body.specs.declared.values.Held.{Held}
@@ -28,17 +30,17 @@ use Rattle.decides.specs.Link.{dropped, unbroken, stepNumber, readyAt, t
 
 -- Before the link drops, the data is shown with the frequency.
 pub before-drop : (stepNumber dropped 2 .item ≡ gives (readyAt 40)) × (valueIn centre (stepNumber dropped 2 .shown .values) ≡ tuned)
-unfolding stepOf after goodValues goodLists goodFrom ofBits gap shows starts kindOf kindIn known effect
+unfolding stepOf after goodValues goodLists goodFrom each upto ofBits toBits gap shows starts kindOf kindIn known effect
 before-drop = (refl, refl)
 
 -- After it, the data is shown with no frequency at all.
 pub after-drop : (stepNumber dropped 5 .item ≡ gives (readyAt 90)) × (valueIn centre (stepNumber dropped 5 .shown .values) ≡ none centre)
-unfolding stepOf after goodValues goodLists goodFrom ofBits gap shows starts kindOf kindIn known effect
+unfolding stepOf after goodValues goodLists goodFrom each upto ofBits toBits gap shows starts kindOf kindIn known effect
 after-drop = (refl, refl)
 
 -- In step all the way, the same data is shown with the frequency, which still holds.
 pub no-drop : (stepNumber unbroken 4 .item ≡ gives (readyAt 84)) × (valueIn centre (stepNumber unbroken 4 .shown .values) ≡ tuned)
-unfolding stepOf after goodValues goodLists goodFrom ofBits gap shows starts kindOf kindIn known effect
+unfolding stepOf after goodValues goodLists goodFrom each upto ofBits toBits gap shows starts kindOf kindIn known effect
 no-drop = (refl, refl)
 
 -- What the last one is, in both: no chunk has set the frequency since the drop, and where there is no drop the CF__ is the last that did.

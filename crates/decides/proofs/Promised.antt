@@ -13,6 +13,7 @@ use Rattle.body.specs.Table.{Slot, group, frequencies, gains, Value, none, sets
 use Rattle.body.specs.Verdict.{verdict}
 use Rattle.body.specs.declared.sampled.Data.{Data}
 use Rattle.state.specs.State.{valueIn}
+use Rattle.state.specs.Sums.{sumsOf}
 use Rattle.state.specs.declared.State.{State}
 use Rattle.effect.specs.Ready.{hertzOf, gainsOf}
 use Rattle.effect.specs.declared.Verdict.the-variants.{Ready}
@@ -22,7 +23,7 @@ use Rattle.reader.specs.declared.Item.the-variants.{Chunk}
 use Rattle.ending.proofs.Calls.{NewCall, new-met, StepCall}
 use Rattle.ending.proofs.Runs.{Run, run-is-step}
 use Rattle.decides.specs.Last.{LastIs, NoneSince, lastValue, lastValues, groupShaped, shownBy, isCounted}
-use Rattle.decides.proofs.Last.{last-group, last-none, last-malformed, last-well}
+use Rattle.decides.proofs.Last.{last-sums, last-group, last-none, last-malformed, last-well}
 use Rattle.decides.proofs.Shown.{last-decides}
 
 -- Calls of step on a stream, from a new cursor, of which call k answers with a ready chunk.
@@ -33,6 +34,10 @@ module _ (o : Order) (s : List ℕ) (start : NewCall) (m : ℕ) (calls : ℕ →
   run-last-decides =
       let t = run-is-step m o s newCursor calls (rw (new-met start) at r) k i in
       ap (λ (a : State). a .values) (t .shown) ∙ last-decides o s k p code size d (sym (t .item) ∙ ap itemSaid e)
+
+  -- So are the sums: every chunk shows those of the dBTG and the gains that it shows.
+  pub run-last-sums : calls k .result .shown .values .sums ≡ sumsOf (calls k .result .shown .values .«total_gain») (calls k .result .shown .values .gains)
+  run-last-sums = last-sums o (kindOf code) (take k (frames o s)) (calls k .result .shown .values) run-last-decides
 
   -- A group chunk shows the last frequencies and gains where their count is that of the last group packing, and else none.
   pub run-last-group : groupShaped (shaped (kindOf code)) ≡ true →

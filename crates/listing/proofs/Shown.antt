@@ -31,7 +31,7 @@ use Rattle.listing.specs.Text.{textOf, shown}
 use Rattle.listing.specs.Words.{numberWord, integerWord, hexWord, causeWord, headOf}
 use Rattle.listing.specs.Lines.{isKnown, verdictWord, countLine, firstLine, stretchLine, chunkLine, answerLine, lastLine}
 use Rattle.listing.specs.declared.Label.{Label}
-use Rattle.listing.specs.declared.Label.the-variants.{Time, Mark, Packing, Rate, Bandwidth, GroupBandwidth, Frequency, FullScale, TotalGain, FloatScale, GroupPacking, GroupFrequencies, GroupGains, Samples, Text, Value, Cause}
+use Rattle.listing.specs.declared.Label.the-variants.{Time, Mark, Packing, Rate, Bandwidth, GroupBandwidth, Frequency, FullScale, TotalGain, FloatScale, GroupPacking, GroupFrequencies, GroupGains, Sum, Samples, Text, Value, Cause}
 use Rattle.listing.proofs.Numbers.{decimal-one, decimal-more, tenth-less}
 use Rattle.listing.proofs.Texts.{shown-text}
 
@@ -157,6 +157,7 @@ head-length FloatScale = omega arith
 head-length GroupPacking = omega arith
 head-length GroupFrequencies = omega arith
 head-length GroupGains = omega arith
+head-length Sum = omega arith
 head-length Samples = omega arith
 head-length Text = omega arith
 head-length Value = omega arith

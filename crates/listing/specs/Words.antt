@@ -6,7 +6,7 @@ use Rattle.reader.specs.declared.Cause as causes
 use Rattle.reader.specs.declared.Cause.the-variants.{Searching, NoSync, Large, Uneven}
 use Rattle.listing.specs.Digits.{decimal, integer, hex}
 use Rattle.listing.specs.declared.Label.{Label}
-use Rattle.listing.specs.declared.Label.the-variants.{Time, Mark, Packing, Rate, Bandwidth, GroupBandwidth, Frequency, FullScale, TotalGain, FloatScale, GroupPacking, GroupFrequencies, GroupGains, Samples, Text, Value, Cause}
+use Rattle.listing.specs.declared.Label.the-variants.{Time, Mark, Packing, Rate, Bandwidth, GroupBandwidth, Frequency, FullScale, TotalGain, FloatScale, GroupPacking, GroupFrequencies, GroupGains, Sum, Samples, Text, Value, Cause}
 
 -- the end of a line
 abbrev pub newline : List ℕ
@@ -65,6 +65,7 @@ headOf GroupPacking = 0x20 ∷ 0x20 ∷ 0x47 ∷ 0x49 ∷ 0x51 ∷ 0x50 ∷ []
 headOf GroupFrequencies = 0x20 ∷ 0x20 ∷ 0x47 ∷ 0x43 ∷ 0x46 ∷ 0x5F ∷ []
 -- GRG_
 headOf GroupGains = 0x20 ∷ 0x20 ∷ 0x47 ∷ 0x52 ∷ 0x47 ∷ 0x5F ∷ []
+headOf Sum = 0x20 ∷ 0x20 ∷ 0x73 ∷ 0x75 ∷ 0x6D ∷ []
 -- samples
 headOf Samples = 0x20 ∷ 0x20 ∷ 0x73 ∷ 0x61 ∷ 0x6D ∷ 0x70 ∷ 0x6C ∷ 0x65 ∷ 0x73 ∷ []
 -- text

@@ -50,6 +50,8 @@ pub enum Label {
     GroupFrequencies,
     // GRG_.
     GroupGains,
+    // dBTG and a channel's gain, added.
+    Sum,
     // The samples.
     Samples,
     // The characters of a TEXT.

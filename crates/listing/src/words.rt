@@ -94,6 +94,7 @@ pub fn label(which: Label) -> Text
         Label::GroupPacking => word(b"  GIQP"),
         Label::GroupFrequencies => word(b"  GCF_"),
         Label::GroupGains => word(b"  GRG_"),
+        Label::Sum => word(b"  sum"),
         Label::Samples => word(b"  samples"),
         Label::Text => word(b"  text"),
         Label::Value => word(b"  value"),

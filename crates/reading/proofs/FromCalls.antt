@@ -43,7 +43,7 @@ pub data FromCalls : Cursor → Type 0 where
   accept : (a : AcceptCall) → FromCalls (a .args .0) → FromCalls (a .result)
   lose : (a : LoseCall) → FromCalls (a .args .0) → FromCalls (a .result)
 
-from-calls : (c : Cursor) → FromCalls c → FromNew c
+pub from-calls : (c : Cursor) → FromCalls c → FromNew c
 from-calls c (new a) = rw (new-met a) From.new
 from-calls c (step a h) =
     let o = a .args .1 .0 in

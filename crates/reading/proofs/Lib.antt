@@ -8,5 +8,6 @@ pub mod Answers
 pub mod Causes
 pub mod FromNew
 pub mod FromCalls
+pub mod Summed
 pub mod Fullest
 pub mod Rows

@@ -3,7 +3,7 @@ use Prim.Native.Nat.{ℕ}
 use mathlib.Core.Path.{_≡_, refl}
 use mathlib.Core.Bool.{false}
 use mathlib.Core.List.{List, [], _∷_, _++_}
-use lib.Ieee.{ofBits}
+use lib.Ieee.{ofBits, toBits}
 use lib.IntN.{pos, negsuc}
 use Rattle.num.specs.Choice.{each}
 use Rattle.num.specs.Number.{bytesOf}
@@ -39,5 +39,5 @@ pub third : Cursor
 third = stepOf Little stream (stepOf Little stream newCursor .cursor) .cursor
 
 pub copied : leftBy false Little stream third 1 (pos 9 ∷ pos 9 ∷ pos 9 ∷ []) ≡ pos 20 ∷ negsuc 1 ∷ pos 9 ∷ []
-unfolding stream third runOf stepOf shows starts kindOf kindIn known effect goodValues goodLists goodFrom ofBits packed listed each offsetAt upto groupCovers covers total layoutAt countOf shaped pairsOf
+unfolding stream third runOf stepOf shows starts kindOf kindIn known effect goodValues goodLists goodFrom ofBits toBits packed listed each offsetAt upto groupCovers covers total layoutAt countOf shaped pairsOf
 copied = refl

@@ -11,6 +11,7 @@ use listing::Text;
 use listing::decimal;
 use listing::hex_word;
 use listing::number;
+use state::GainSums;
 use state::State;
 
 // The start mark, then each value, in the order of the kinds.
@@ -28,6 +29,7 @@ pub(crate) fn all(state: State) {
     packing(values.group);
     hertz(values.frequencies);
     gains(values.gains);
+    sums(values.sums);
 }
 
 // 1 or 0.
@@ -104,5 +106,19 @@ fn gains(group: GroupGains) {
             }
         }
         line.end();
+    }
+}
+
+// A line for each channel that has a sum.
+fn sums(sums: GainSums) {
+    let present = sums.present;
+    let values = sums.values;
+    for c in 0..16 {
+        if present[c] {
+            start(Label::Sum)
+                .with(number(c))
+                .with(pattern(values[c]))
+                .end();
+        }
     }
 }

@@ -7,6 +7,7 @@ mod copies;
 mod cursors;
 mod rows;
 mod states;
+mod totals;
 mod values;
 mod writes;
 

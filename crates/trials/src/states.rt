@@ -1,5 +1,6 @@
-// Forty-one states: a full one and the empty one, the full one with one value that no state may hold, and, from 36 on,
-// with one at the edge of what a state may hold.
+// Fifty-nine states: a full one and the empty one; the full one with one value that no state may hold; from 36 to 40 with
+// one at the edge of what a state may hold; from 41 to 50 with sums that do not agree with their parts; and from 51 on
+// with sums that do.
 use body::BandHeld;
 use body::GroupGains;
 use body::GroupHertz;
@@ -10,7 +11,7 @@ use state::State;
 use state::Values;
 
 // How many there are.
-pub(crate) const STATES: usize = 41;
+pub(crate) const STATES: usize = 59;
 
 // The k-th state.
 pub(crate) fn made(k: usize) -> State {
@@ -30,6 +31,7 @@ pub(crate) fn made(k: usize) -> State {
             group: group(k),
             frequencies: frequencies(k),
             gains: gains(k),
+            sums: crate::totals::sums(k),
         },
         mark: true,
     }
@@ -54,17 +56,27 @@ fn level(present: bool, value: f32) -> LevelHeld {
 }
 
 // Infinity.
-fn endless() -> f32 {
+pub(crate) fn endless() -> f32 {
     f32::from_bits(0x7F80_0000)
 }
 
 // The least number above 0.
-fn least() -> f32 {
+pub(crate) fn least() -> f32 {
     f32::from_bits(1)
 }
 
+// The next number above that, twice as large.
+pub(crate) fn twice_least() -> f32 {
+    f32::from_bits(2)
+}
+
+// The largest finite float.
+pub(crate) fn largest() -> f32 {
+    f32::from_bits(0x7F7F_FFFF)
+}
+
 // What infinity less itself is: a NaN.
-fn no_number() -> f32 {
+pub(crate) fn no_number() -> f32 {
     let x = endless();
     x - x
 }
@@ -131,6 +143,11 @@ fn total_gain(k: usize) -> LevelHeld {
     match k {
         15 => level(true, no_number()),
         16 => level(false, 1.0),
+        46 | 55 => level(false, 0.0),
+        47 | 53 => level(true, largest()),
+        52 => level(true, -0.0),
+        54 => level(true, least()),
+        57 => level(true, 16777216.0),
         _ => level(true, 20.0),
     }
 }
@@ -205,6 +222,15 @@ fn gains(k: usize) -> GroupGains {
         33 => decibels(2, 1.5, endless(), 0.0),
         34 => decibels(2, 1.5, -0.0, -0.0),
         35 => decibels(0, 1.0, 0.0, 0.0),
+        45 | 51 => decibels(2, 1.5, -20.0, 0.0),
+        47 | 53 => decibels(2, largest(), -largest(), 0.0),
+        50 | 56 => decibels(0, 0.0, 0.0, 0.0),
+        54 => decibels(2, least(), 0.0, 0.0),
+        57 => decibels(2, 1.0, 3.0, 0.0),
+        58 => GroupGains {
+            n: 16,
+            values: crate::totals::rising(0.0),
+        },
         _ => decibels(2, 1.5, -0.0, 0.0),
     }
 }

@@ -156,6 +156,15 @@ slice-aggregate-word-17 c = search needs
 word-requires-17 : tie.Need-word-requires-17
 word-requires-17 c κs = search needs
 
+enum-told-18 : tie.Need-enum-told-18
+enum-told-18 c = search needs
+
+slice-aggregate-word-18 : tie.Need-slice-aggregate-word-18
+slice-aggregate-word-18 c = search needs
+
+word-requires-18 : tie.Need-word-requires-18
+word-requires-18 c κs = search needs
+
 returns : tie.Need-returns
 returns c = rw (c .before .before .enum-told .given .1) (c .word .ensures)
 
@@ -206,6 +215,9 @@ returns-16 c = rw (c .before .before .enum-told16 .given .1) (c .word16 .ensures
 
 returns-17 : tie.Need-returns-17
 returns-17 c = rw (c .before .before .enum-told17 .given .1) (c .word17 .ensures)
+
+returns-18 : tie.Need-returns-18
+returns-18 c = rw (c .before .before .enum-told18 .given .1) (c .word18 .ensures)
 
 pub label-spec : {M : Type 1} → statement M
 label-spec =
@@ -262,6 +274,9 @@ label-spec =
     enum-told-17
     slice-aggregate-word-17
     word-requires-17
+    enum-told-18
+    slice-aggregate-word-18
+    word-requires-18
     returns
     returns-2
     returns-3
@@ -278,4 +293,5 @@ label-spec =
     returns-14
     returns-15
     returns-16
-    returns-17)
+    returns-17
+    returns-18)

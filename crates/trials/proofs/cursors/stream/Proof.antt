@@ -5,10 +5,10 @@ use Rattle.trials.proofs.cursors.stream.Statement.{statement}
 use Rattle.trials.proofs.cursors.stream.Tie as tie
 
 abbrev Inv-loop : tie.InvT-loop
-Inv-loop order s digest₀ k₀ digest k = k ≤ 41
+Inv-loop order s digest₀ k₀ digest k = k ≤ 59
 
 abbrev μ-loop : tie.MeasureT-loop
-μ-loop order s digest₀ k₀ digest k = 41 - k
+μ-loop order s digest₀ k₀ digest k = 59 - k
 
 loop-holds : tie.Need-loop-holds Inv-loop μ-loop
 loop-holds c = search needs
