@@ -1,8 +1,8 @@
 -- The sums of every cursor that the reader gives, and of all that it shows, are those of their parts, by definition and of any
 -- calls that meet the promises. And number 3 for sums: exactly where they are not.
 use Prim.Native.Nat.{ℕ, _<_}
-use mathlib.Core.Path.{_≡_, refl, sym, _∙_}
-use mathlib.Core.Bool.{true, false}
+use mathlib.Core.Path.{_≡_, refl}
+use mathlib.Core.Bool.{true}
 use mathlib.Core.List.{List}
 use mathlib.Core.Logic.{_↔_}
 use lib.Dec.{T}
@@ -11,7 +11,6 @@ use lib.ListN.{length, getD}
 use Rattle.num.specs.declared.Order.{Order}
 use Rattle.state.specs.State.{Summed}
 use Rattle.state.specs.Sums.{agree}
-use Rattle.state.specs.declared.State.{State}
 use Rattle.state.specs.declared.Values.{Values}
 use Rattle.state.proofs.Summed.{own-agree, agree-own}
 use Rattle.reader.specs.declared.Cursor.{Cursor}

@@ -159,12 +159,13 @@ pub struct Listed {
     pub sums: bool,
 }
 
-// In each list the first n places are used, and the others hold 0: the powers of two of the places that hold something
-// else are together below 2 to the power of n. An offset fits an int32, and a gain is finite. The sums agree with dBTG
-// and the gains: those that are present are the finite ones among the channels that have both parts, which the powers
-// say, modulo 2 to the power of their number; each has the pattern of its addition, and an absent one has 0. One loop
-// goes over all of this; it has no early way out and compares no place with n, so that the compiler tests several places
-// at a time.
+// In each list the first n places are used, and the others hold 0: `a` and `b` have the powers of two of the places that
+// hold something else, added, and are below 2 to the power of n. An offset fits an int32, and a gain is finite.
+// A flagged channel holds its sum, in every bit, and any other holds 0. The flagged ones are those that have both parts
+// and a finite sum: `marked` has the powers of the flagged channels, `finites` has those of the finite sums, and the
+// remainder leaves the channels with both parts.
+// One loop goes over all of this. It has no early way out and compares no place with n, so that the compiler tests
+// several places at a time.
 fn places(group: GroupPacking, gains: GroupGains, total: LevelHeld, sums: GainSums) -> Listed
     ensures { λ r. ⌜ (r .offsets ≡ goodFrom isOffset isNoOffset (group .n) 0 (group .offsets))
         × (r .gains ≡ goodFrom isFinite isPlusZero (gains .n) 0 (gains .values))
