@@ -181,7 +181,7 @@ impl Cursor {
             return still(Item::PastEnd, self);
         }
         let values = self.state.values;
-        // The two halves of the test are short enough to be inlined one by one.
+        // The test is asked in two halves, so that the compiler may inline one without the other.
         if self.in_step & !(values.good_values() & values.good_lists()) {
             return still(Item::BadState, self);
         }
