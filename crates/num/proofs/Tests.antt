@@ -24,6 +24,10 @@ both-true a b h = (both-left a b h, both-right a b h)
 pub both-hold : (a b : Bool) → a ≡ true → b ≡ true → both a b ≡ true
 both-hold a b h k = rw (h, k)
 
+pub both-whole : (b : Bool) → both b true ≡ b
+both-whole true = refl
+both-whole false = refl
+
 pub both-false : (b : Bool) → both b false ≡ false
 both-false true = refl
 both-false false = refl

@@ -18,7 +18,7 @@ use Rattle.body.proofs.Lists.{upto-at}
 use Rattle.state.specs.State.{Summed}
 use Rattle.state.specs.Sums.{bothParts, sumAt, hasSum, heldSum, agree}
 use Rattle.state.specs.declared.Values.{Values}
-use Rattle.state.proofs.Summed.{own-agree, agree-own}
+use Rattle.state.proofs.Agree.{own-agree, agree-own}
 use Rattle.reader.specs.declared.Cursor.{Cursor}
 use Rattle.reader.specs.Step.{stepOf}
 use Rattle.reader.proofs.Summed.{StepSummed, before-summed, step-summed}

@@ -220,7 +220,7 @@ fn plan_at(order: Order, s: &[u8], cursor: Cursor, channel: usize, float: bool) 
         return Planned::Refused(Copied::PastEnd);
     }
     let values = cursor.state.values;
-    // The two halves of the test are short enough to be inlined one by one.
+    // The test is asked in two halves, so that the compiler may inline one without the other.
     if cursor.in_step & !(values.good_values() & values.good_lists()) {
         return Planned::Refused(Copied::BadState);
     }

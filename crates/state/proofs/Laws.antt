@@ -17,7 +17,7 @@ use Rattle.state.specs.declared.Values.{Values}
 use Rattle.state.specs.declared.State.{State}
 use Rattle.state.specs.State.{emptied, setIn, withValues}
 use Rattle.state.specs.Sums.{sumsOf, agree}
-use Rattle.state.proofs.Summed.{own-agree}
+use Rattle.state.proofs.Agree.{own-agree}
 use Rattle.state.specs.Good.{zeroOrOne, anyNumber, isScale, isOffset, isNoOffset, goodNumber, goodBand, goodLevel, goodFrom, goodList, goodHead, goodFrequencies, goodGains, goodIn, goodState, goodValues, goodLists}
 
 -- ---- the parts of a good state

@@ -1,5 +1,6 @@
 pub mod Laws
 pub mod Summed
+pub mod Agree
 pub mod Slots
 pub mod Tests
 pub mod Powers

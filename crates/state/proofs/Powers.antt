@@ -12,7 +12,7 @@ use lib.Dec.{eqb, ltb}
 use lib.ListN.{length, getD}
 use lib.Pow.{pow-pos, pow-mono, pow-add}
 use Rattle.num.specs.Choice.{pick, both, either, each}
-use Rattle.num.proofs.Tests.{each-same, each-both}
+use Rattle.num.proofs.Tests.{both-whole, both-false, each-same, each-both}
 use Rattle.state.specs.Good.{goodFrom}
 use Rattle.state.proofs.Tests.{placeGood, from-each}
 
@@ -55,10 +55,6 @@ keep-true true true = refl
 keep-true true false = refl
 keep-true false t = refl
 
-not-last : (a : Bool) → both a false ≡ false
-not-last true = refl
-not-last false = refl
-
 module _ (n i a : ℕ) (b : Bool) (small : a < 2 ^ i) (before : ltb a (2 ^ n) ≡ b) where
   within-by : (t u : Bool) → ltb i n ≡ u → ltb (a + pick t (2 ^ i) 0) (2 ^ n) ≡ both b (either u (not t))
   within-by true true e =
@@ -70,7 +66,7 @@ module _ (n i a : ℕ) (b : Bool) (small : a < 2 ^ i) (before : ltb a (2 ^ n) �
   within-by true false e =
       let k = ltb-false i n e in
       let p = pow-mono {i = n} {j = i} k in
-      le-ltb (a + 2 ^ i) (2 ^ n) (omega arith) ∙ sym (not-last b)
+      le-ltb (a + 2 ^ i) (2 ^ n) (omega arith) ∙ sym (both-false b)
   within-by false u e = let z : a + 0 ≡ a = omega arith in rw z (before ∙ keep-true b u)
 
 -- the powers of the places that hold something are together below 2 ^ n exactly where each of these places is below n
@@ -111,8 +107,8 @@ module _ (p a b : ℕ) (d : Bool) (small : a < p) (tiny : b < p) (before : eqb a
       shifted : (x : ℕ) (c : Bool) → eqb a b ≡ c → eqb (a + x) (b + x) ≡ both c true
       shifted x true e = let h = eqb-true a b e in eq-eqb (a + x) (b + x) (omega arith)
       shifted x false e = let h = eqb-false a b e in ne-eqb (a + x) (b + x) (λ q. h (omega (arith, q)))
-  equal-by true false = ne-eqb (a + p) (b + 0) (λ q. omega (arith, q, small, tiny)) ∙ sym (not-last d)
-  equal-by false true = ne-eqb (a + 0) (b + p) (λ q. omega (arith, q, small, tiny)) ∙ sym (not-last d)
+  equal-by true false = ne-eqb (a + p) (b + 0) (λ q. omega (arith, q, small, tiny)) ∙ sym (both-false d)
+  equal-by false true = ne-eqb (a + 0) (b + p) (λ q. omega (arith, q, small, tiny)) ∙ sym (both-false d)
   equal-by false false = let y : a + 0 ≡ a = omega arith in let z : b + 0 ≡ b = omega arith in rw (y, z) (before ∙ keep-true d true)
 
 -- two sums of powers are equal exactly where the same places are counted
@@ -134,13 +130,9 @@ used-by c n false e h = let k = ltb-false n 16 e in lt-ltb c n (omega arith) ∙
 
 module _ {A : Type 0} (ok none : A → Bool) (nothing-ok : (x : A) → none x ≡ true → ok x ≡ true) where
   place-by : (x : A) (t b : Bool) → none x ≡ b → pick t (ok x) b ≡ both (ok x) (either t b)
-  place-by x true b e = keep-ok (ok x)
-    where
-      keep-ok : (a : Bool) → a ≡ both a true
-      keep-ok true = refl
-      keep-ok false = refl
+  place-by x true b e = sym (both-whole (ok x))
   place-by x false true e = sym (rw (nothing-ok x e))
-  place-by x false false e = sym (not-last (ok x))
+  place-by x false false e = sym (both-false (ok x))
 
   module _ (n : ℕ) (l : List A) (d : A) where
     -- A list of sixteen places is good where each holds what is allowed in a place that is used, and those that hold something are

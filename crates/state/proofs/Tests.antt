@@ -15,7 +15,7 @@ use mir.Syntax.{w64}
 use mir.Val.{SFits, ofZ}
 use borrow.Author.Tests.{ne-eqb, eqb-true, lt-ltb, ltb-true}
 use Rattle.num.specs.Choice.{pick, both, each}
-use Rattle.num.proofs.Tests.{both-false}
+use Rattle.num.proofs.Tests.{both-whole, both-false}
 use Rattle.body.specs.Levels.{isFinite}
 use Rattle.body.proofs.Nans.{unequal-nan}
 use Rattle.state.specs.Good.{isZero, isPlusZero, isOffset, isNoOffset, goodFrom}
@@ -25,10 +25,6 @@ use Rattle.state.specs.Good.{isZero, isPlusZero, isOffset, isNoOffset, g
 both-next : (a b r : Bool) → both a (both b r) ≡ both (both a b) r
 both-next true b r = refl
 both-next false b r = refl
-
-both-last : (a : Bool) → both a true ≡ a
-both-last true = refl
-both-last false = refl
 
 module _ {A : Type 0} (ok none : A → Bool) (n : ℕ) (l : List A) (d : A) where
   abbrev pub placeGood : ℕ → Bool
@@ -51,7 +47,7 @@ module _ {A : Type 0} (ok none : A → Bool) (n : ℕ) (l : List A) (d : A) wher
   from-each k h =
       let m : length l ≤ k = omega arith in
       let e : drop k l ≡ [] = drop-of-length-le l m in
-      from-split k (omega arith) ∙ rw e (both-last (each placeGood k))
+      from-split k (omega arith) ∙ rw e (both-whole (each placeGood k))
 
 -- ---- single values
 

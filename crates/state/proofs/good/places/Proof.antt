@@ -16,7 +16,7 @@ use Rattle.state.specs.Good.{isOffset, isNoOffset, isPlusZero}
 use Rattle.state.specs.Sums.{bothParts, sumAt}
 use Rattle.state.proofs.Tests.{no-offset-small, plus-zero-finite, at-most}
 use Rattle.state.proofs.Powers.{powers, powers-none, powers-next, powers-fit, list-by}
-use Rattle.state.proofs.Summed.{alike, agree-by}
+use Rattle.state.proofs.Agree.{alike, agree-by}
 use Rattle.state.proofs.good.places.Statement.{statement}
 use Rattle.state.proofs.good.places.Tie as tie
 
