@@ -61,27 +61,27 @@ module _ (v : Values) (h : Summed v) (c : ℕ) (l : c < 16) where
   abbrev held : Float
   held = getD (v .sums .values) c nan
 
-  abbrev sum : Float
-  sum = sumAt (v .«total_gain») (v .gains) c
+  abbrev added : Float
+  added = sumAt (v .«total_gain») (v .gains) c
 
   flag-is : flag ≡ hasSum (v .«total_gain») (v .gains) c
   flag-is = rw h (upto-at (hasSum (v .«total_gain») (v .gains)) false 16 c 16 false l ∙ rw (lt-ltb c 16 l))
 
-  held-is : held ≡ pick flag sum (ofBits binary32 0)
+  held-is : held ≡ pick flag added (ofBits binary32 0)
   held-is = rw (flag-is, h) (upto-at (heldSum (v .«total_gain») (v .gains)) (ofBits binary32 0) 16 c 16 nan l ∙ rw (lt-ltb c 16 l))
 
   -- A channel's sum is present exactly where dBTG is, the channel has a gain, and the two add up to a finite float.
-  pub sum-present : (flag ≡ true) ↔ ((v .«total_gain» .present ≡ true) × (c < v .gains .n) × (isFinite sum ≡ true))
+  pub sum-present : (flag ≡ true) ↔ ((v .«total_gain» .present ≡ true) × (c < v .gains .n) × (isFinite added ≡ true))
   sum-present = (
     λ e.
-        let two = both-true (ltb c (bothParts (v .«total_gain») (v .gains))) (isFinite sum) (sym flag-is ∙ e) in
+        let two = both-true (ltb c (bothParts (v .«total_gain») (v .gains))) (isFinite added) (sym flag-is ∙ e) in
         let parts = parts-by (v .«total_gain» .present) (v .gains .n) c (two .0) in
         (parts .0, parts .1, two .1),
     λ p. flag-is ∙ rw (p .0, lt-ltb c (v .gains .n) (p .1)) (p .2),
   )
 
   -- A present one is their sum, rounded once, and an absent one is the float whose pattern is 0.
-  pub sum-held : (flag ≡ true → held ≡ sum) × (flag ≡ false → held ≡ ofBits binary32 0)
+  pub sum-held : (flag ≡ true → held ≡ added) × (flag ≡ false → held ≡ ofBits binary32 0)
   sum-held = (λ e. rw e at held-is, λ e. rw e at held-is)
 
 -- ---- of sums made at will
