@@ -1,5 +1,5 @@
 -- A state that was rebuilt, the empty state, one with other values or another mark, values with another dBTG or other gains, no sums, and
--- whether a state is good, its values and its lists, are each one answer.
+-- the three parts of the test of a state are each one answer.
 use mathlib.Core.Path.{sym, _∙_}
 use Rattle.state.proofs.State.rebuilt.Reads as rebuilt
 use Rattle.state.proofs.State.empty.Reads as empty
@@ -8,7 +8,8 @@ use Rattle.state.proofs.State.with_mark.Reads as with_mark
 use Rattle.state.proofs.Values.with_total_gain.Reads as with_total_gain
 use Rattle.state.proofs.Values.with_gains.Reads as with_gains
 use Rattle.state.proofs.Values.good_values.Reads as good_values
-use Rattle.state.proofs.Values.good_lists.Reads as good_lists
+use Rattle.state.proofs.good.good_lists.Reads as good_lists
+use Rattle.state.proofs.good.good_frequencies.Reads as good_frequencies
 use Rattle.state.proofs.sums.no_sums.Reads as no_sums
 use Rattle.claims.proofs.Promise.{OneAnswer}
 
@@ -38,3 +39,6 @@ good-values-one-answer κs a r r′ s s′ p q = p ∙ sym q
 
 pub good-lists-one-answer : OneAnswer good_lists.Post
 good-lists-one-answer κs a r r′ s s′ p q = p ∙ sym q
+
+pub good-frequencies-one-answer : OneAnswer good_frequencies.Post
+good-frequencies-one-answer κs a r r′ s s′ p q = p ∙ sym q

@@ -11,6 +11,7 @@ ghost use Rattle.effect.specs.Effect.{effect};
 ghost use Rattle.effect.specs.Ready.{noState};
 ghost use Rattle.frame.specs.Frames.{width, first};
 ghost use Rattle.frame.specs.Place.{headerSize, gap};
+ghost use Rattle.state.specs.Good.{allGood};
 ghost use Rattle.state.specs.State.{withMark};
 ghost use Rattle.reader.specs.Cause.{causeOf};
 ghost use Rattle.reader.specs.Item.{itemSaid, itemNumber};
@@ -25,6 +26,7 @@ use frame::Found;
 use frame::Stray;
 use num::Order;
 use state::State;
+use state::Values;
 
 // Where a reader stands: its place in the stream, whether it is in step or searching, and the channel state.
 pub struct Cursor {
@@ -180,9 +182,7 @@ impl Cursor {
         if s.len() < at {
             return still(Item::PastEnd, self);
         }
-        let values = self.state.values;
-        // The test is asked in two halves, so that the compiler may inline one without the other.
-        if self.in_step & !(values.good_values() & values.good_lists()) {
+        if self.in_step & !fit(self.state.values) {
             return still(Item::BadState, self);
         }
         match frame::ahead_of(order, s, at) {
@@ -196,6 +196,20 @@ impl Cursor {
             Ahead::Stretch(stray) => skip(order, s, self, stray),
         }
     }
+}
+
+// Whether a state may hold these values, which is the test behind number 3. It is asked in three calls, and each list is a
+// variable of its own, so that the compiler inlines the calls and copies no list.
+fn fit(values: Values) -> bool
+    ensures { λ r. ⌜ r ≡ allGood values ⌝ }
+{
+    let group = values.group;
+    let gains = values.gains;
+    let sums = values.sums;
+    let frequencies = values.frequencies;
+    values.good_values()
+        & state::good_lists(group, gains, values.total_gain, sums)
+        & state::good_frequencies(frequencies)
 }
 
 // The state, with the start mark set.

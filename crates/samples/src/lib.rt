@@ -17,6 +17,7 @@ ghost use Rattle.frame.specs.Place.{headerSize};
 ghost use Rattle.body.specs.Table.{shaped};
 ghost use Rattle.effect.specs.Effect.{effect};
 ghost use Rattle.effect.specs.Ready.{readyData, askedSaid};
+ghost use Rattle.state.specs.Good.{allGood};
 ghost use Rattle.samples.specs.Inner.Plan.{layoutSaid, numberBytes, Plans, Tells, Sound};
 ghost use Rattle.samples.specs.Copy.{layoutAt, samplesAt};
 use body::Data;
@@ -28,6 +29,7 @@ use frame::Ahead;
 use num::Order;
 use reader::Cursor;
 use state::State;
+use state::Values;
 
 // Where a channel's numbers lie among those of a chunk: pairs, by the first of them, the step from one to the next and
 // how many; or reals, from the first on.
@@ -209,6 +211,20 @@ fn plan_in(
     }
 }
 
+// Whether a state may hold these values, which is the test behind number 3. It is asked in three calls, and each list is a
+// variable of its own, so that the compiler inlines the calls and copies no list.
+fn fit(values: Values) -> bool
+    ensures { λ r. ⌜ r ≡ allGood values ⌝ }
+{
+    let group = values.group;
+    let gains = values.gains;
+    let sums = values.sums;
+    let frequencies = values.frequencies;
+    values.good_values()
+        & state::good_lists(group, gains, values.total_gain, sums)
+        & state::good_frequencies(frequencies)
+}
+
 // The plan for the chunk at a cursor. No step is made: it would move a state that nobody asks for.
 fn plan_at(order: Order, s: &[u8], cursor: Cursor, channel: usize, float: bool) -> Planned
     ensures { λ r. ⌜ Tells (now (s .entry)) (layoutAt float order (now (s .entry)) cursor channel)
@@ -219,9 +235,7 @@ fn plan_at(order: Order, s: &[u8], cursor: Cursor, channel: usize, float: bool) 
     if s.len() < at {
         return Planned::Refused(Copied::PastEnd);
     }
-    let values = cursor.state.values;
-    // The test is asked in two halves, so that the compiler may inline one without the other.
-    if cursor.in_step & !(values.good_values() & values.good_lists()) {
+    if cursor.in_step & !fit(cursor.state.values) {
         return Planned::Refused(Copied::BadState);
     }
     // Nothing is ready for a reader that is searching: it has no sample rate.

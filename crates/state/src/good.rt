@@ -9,7 +9,7 @@ ghost use lib.Ieee.{binary32, toBits, isNan};
 ghost use Rattle.state.specs.Sums.{agree};
 ghost use Rattle.num.specs.Choice.{pick, both};
 ghost use Rattle.body.specs.Levels.{isFinite};
-ghost use Rattle.state.specs.Good.{isZero, isPlusZero, zeroOrOne, anyNumber, isScale, isOffset, isNoOffset, goodNumber, goodBand, goodLevel, goodFrom, goodHead, goodValues, goodLists};
+ghost use Rattle.state.specs.Good.{isZero, isPlusZero, zeroOrOne, anyNumber, isScale, isOffset, isNoOffset, goodNumber, goodBand, goodLevel, goodHead, goodValues, goodLists, goodHertz};
 use crate::GainSums;
 use crate::Values;
 use crate::sums::channels;
@@ -152,13 +152,8 @@ fn same(x: f32, y: f32) -> bool
     }
 }
 
-// Whether each place of a list holds what it may, and whether the sums are right.
-pub struct Listed {
-    pub offsets: bool,
-    pub gains: bool,
-    pub sums: bool,
-}
-
+// The second part of the test behind number 3: whether the places of the offsets and of the gains hold what they may, and
+// the sums agree with their parts.
 // In each list the first n places are used, and the others hold 0: `a` and `b` have the powers of two of the places that
 // hold something else, added, and are below 2 to the power of n. An offset fits an int32, and a gain is finite.
 // A flagged channel holds its sum, in every bit, and any other holds 0. The flagged ones are those that have both parts
@@ -166,10 +161,8 @@ pub struct Listed {
 // remainder leaves the channels with both parts.
 // One loop goes over all of this. It has no early way out and compares no place with n, so that the compiler tests
 // several places at a time.
-fn places(group: GroupPacking, gains: GroupGains, total: LevelHeld, sums: GainSums) -> Listed
-    ensures { λ r. ⌜ (r .offsets ≡ goodFrom isOffset isNoOffset (group .n) 0 (group .offsets))
-        × (r .gains ≡ goodFrom isFinite isPlusZero (gains .n) 0 (gains .values))
-        × (r .sums ≡ agree total gains sums) ⌝ }
+pub fn good_lists(group: GroupPacking, gains: GroupGains, total: LevelHeld, sums: GainSums) -> bool
+    ensures { λ r. ⌜ r ≡ goodLists group gains total sums ⌝ }
 {
     let offsets = group.offsets;
     let decibels = gains.values;
@@ -199,17 +192,15 @@ fn places(group: GroupPacking, gains: GroupGains, total: LevelHeld, sums: GainSu
         finites += only(finite(sum), bit);
         i += 1;
     }
-    Listed {
-        offsets: small & within(a, group.n),
-        gains: bounded & within(b, gains.n),
-        sums: alike & (marked == finites % power(channels(total, gains))),
-    }
+    (small & within(a, group.n))
+        & (bounded & within(b, gains.n))
+        & (alike & (marked == finites % power(channels(total, gains))))
 }
 
-// The same of the frequencies, of which any may stand in a place that is used. Their loop is another one, since it
-// tests wider numbers.
-fn hertz_places(frequencies: GroupHertz) -> bool
-    ensures { λ r. ⌜ r ≡ goodFrom anyNumber isZero (frequencies .n) 0 (frequencies .values) ⌝ }
+// The third part: whether the places of the frequencies hold what they may, which is any number in a place that is
+// used. Their loop is another one, since it tests wider numbers.
+pub fn good_frequencies(frequencies: GroupHertz) -> bool
+    ensures { λ r. ⌜ r ≡ goodHertz frequencies ⌝ }
 {
     let hertz = frequencies.values;
     let mut filled = 0u32;
@@ -235,16 +226,9 @@ fn good_head(g: GroupPacking) -> bool
     )
 }
 
-// Up to 16 channels, and each place of the list as it may be.
-fn good_list(n: usize, listed: bool) -> bool
-    ensures { λ r. ⌜ r ≡ both (leb n 16) listed ⌝ }
-{
-    (n <= 16) & listed
-}
-
 impl Values {
-    // One half of the test behind number 3: whether the values that are no lists, and the head of the group packing,
-    // may stand in a state.
+    // The first part of the test behind number 3: whether the values that are no lists may stand in a state, and so the
+    // head of the group packing and the counts of the lists.
     pub fn good_values(self) -> bool
         ensures { λ r. ⌜ r ≡ goodValues self ⌝ }
     {
@@ -258,21 +242,8 @@ impl Values {
             & good_level(self.total_gain)
             & good_scale(self.float_scale)
             & good_head(group)
-    }
-
-    // The other half: whether each of the three lists has at most 16 channels and holds only what it may, and whether
-    // the sums agree with their parts.
-    pub fn good_lists(self) -> bool
-        ensures { λ r. ⌜ r ≡ goodLists self ⌝ }
-    {
-        let group = self.group;
-        let frequencies = self.frequencies;
-        let gains = self.gains;
-        let sums = self.sums;
-        let lists = places(group, gains, self.total_gain, sums);
-        good_list(group.n, lists.offsets)
-            & good_list(frequencies.n, hertz_places(frequencies))
-            & good_list(gains.n, lists.gains)
-            & lists.sums
+            & (group.n <= 16)
+            & (self.frequencies.n <= 16)
+            & (self.gains.n <= 16)
     }
 }

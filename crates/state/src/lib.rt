@@ -12,6 +12,8 @@ use body::LevelHeld;
 pub mod good;
 pub mod sums;
 
+pub use good::good_frequencies;
+pub use good::good_lists;
 pub use sums::GainSums;
 pub use sums::no_sums;
 

@@ -7,12 +7,10 @@ use lib.ListN.{length, take, drop}
 use borrow.Author.Needs.{needs}
 use borrow.Author.Tests.{not-true, not-false}
 use Rattle.num.specs.Answer.{gives}
-use Rattle.num.specs.Choice.{both}
 use Rattle.frame.specs.Ahead.{aheadOf}
 use Rattle.frame.specs.declared.Ahead.the-variants.{Chunk}
 use Rattle.frame.proofs.Looks.{is-chunk, other-told}
 use Rattle.effect.specs.Ready.{readyData}
-use Rattle.state.specs.Good.{goodState}
 use Rattle.reader.specs.Step.{stepBy, stepOf, accepts, unfit}
 use Rattle.reader.proofs.Laws.{step-past, step-unfit, step-ahead, chunk-ends}
 use Rattle.samples.specs.Copy.{layoutAt, samplesAt}
@@ -28,36 +26,29 @@ returns c =
     let a = c .before .before .args in
     ((2, rw (step-past (a .order) (a .s .now) (a .cursor) (c .if1 .taken)), refl), tt)
 
-good-values-requires : tie.Need-good-values-requires
-good-values-requires c κs = search needs
-
-good-lists-requires : tie.Need-good-lists-requires
-good-lists-requires c κs = search needs
-
--- the two halves that are tested are the test of number 3
-halves : (c : tie.After-good-lists) → goodState (c .before .before .before .before .before .args .cursor .state) ≡ both (c .before .good-values .result) (c .good-lists .result)
-halves c = rw (c .before .good-values .ensures, c .good-lists .ensures)
+fit-requires : tie.Need-fit-requires
+fit-requires c κs = search needs
 
 returns-2 : tie.Need-returns-2
 unfolding layoutAt
 returns-2 c =
-    let a = c .before .before .before .before .before .before .before .args in
-    let k : unfit (a .cursor) ≡ true = rw (halves (c .before .before)) (c .if2 .taken) in
-    ((3, rw (step-unfit (a .order) (a .s .now) (a .cursor) (c .before .before .before .before .before .if1 .left) k), refl), tt)
+    let a = c .before .before .before .before .before .args in
+    let k : unfit (a .cursor) ≡ true = rw (← c .before .before .fit .ensures) (c .if2 .taken) in
+    ((3, rw (step-unfit (a .order) (a .s .now) (a .cursor) (c .before .before .before .if1 .left) k), refl), tt)
 
 -- past the test of number 3, what is ahead makes the step
 ahead : (c : tie.Else2) →
-    let a = c .before .before .before .before .before .before .before .args in
+    let a = c .before .before .before .before .before .args in
     stepOf (a .order) (a .s .now) (a .cursor) ≡ stepBy (a .order) (drop (a .cursor .place) (a .s .now)) (a .cursor) (aheadOf (a .order) (drop (a .cursor .place) (a .s .now)))
 ahead c =
-    let a = c .before .before .before .before .before .before .before .args in
-    step-ahead (a .order) (a .s .now) (a .cursor) (omega arith) (rw (halves (c .before .before)) (c .if2 .left))
+    let a = c .before .before .before .before .before .args in
+    step-ahead (a .order) (a .s .now) (a .cursor) (omega arith) (rw (← c .before .before .fit .ensures) (c .if2 .left))
 
 returns-3 : tie.Need-returns-3
 unfolding layoutAt
 returns-3 c =
     let h = c .before .before in
-    let a = h .before .before .before .before .before .before .before .args in
+    let a = h .before .before .before .before .before .args in
     let l = drop (a .cursor .place) (a .s .now) in
     ((35, rw (ahead h) (none-searching (a .float) (a .channel) (a .order) l (a .cursor) (aheadOf (a .order) l) (not-true (a .cursor .«in_step») (c .if3 .taken))), refl), tt)
 
@@ -71,7 +62,7 @@ returns-4 : tie.Need-returns-4
 unfolding layoutAt
 returns-4 c =
     let h = c .before .before .before .before in
-    let a = h .before .before .before .before .before .before .before .args in
+    let a = h .before .before .before .before .before .args in
     ((35, rw (ahead h, ← c .before .ahead-of .ensures) (none-ahead (a .float) (a .channel) (a .order) (drop (a .cursor .place) (a .s .now)) (a .cursor) (c .before .ahead-of .result) (other-told (c .before .ahead-of .result) (c .match .keys2))), refl), tt)
 
 kind-of-requires : tie.Need-kind-of-requires
@@ -79,27 +70,27 @@ kind-of-requires c κs = search needs
 
 -- the chunk ahead
 here : (c : tie.After-known-told) →
-    let a = c .before .before .before .before .before .before .before .before .before .before .before .before .before .args in
+    let a = c .before .before .before .before .before .before .before .before .before .before .before .args in
     aheadOf (a .order) (drop (a .cursor .place) (a .s .now)) ≡ Chunk (c .before .code .given .0 .0) (c .before .code .given .0 .1 .0)
 here c = sym (c .before .before .before .ahead-of .ensures) ∙ c .before .code .given .1
 
 -- it is the one that a step accepts, in step
 step : (c : tie.After-known-told) →
-    let a = c .before .before .before .before .before .before .before .before .before .before .before .before .before .args in
+    let a = c .before .before .before .before .before .before .before .before .before .before .before .args in
     let code = c .before .code .given .0 .0 in
     let size = c .before .code .given .0 .1 .0 in
     stepOf (a .order) (a .s .now) (a .cursor) ≡ accepts (a .cursor) code size (effectIn (a .order) (drop (a .cursor .place) (a .s .now)) code size (a .cursor .state))
 step c =
     let e = c .before .before .before .before in
-    let a = c .before .before .before .before .before .before .before .before .before .before .before .before .before .args in
+    let a = c .before .before .before .before .before .before .before .before .before .before .before .args in
     ahead (e .before .before) ∙ rw (here c, not-false (a .cursor .«in_step») (e .if3 .left))
 
 -- and its body is whole
 fits : (c : tie.After-known-told) →
-    let a = c .before .before .before .before .before .before .before .before .before .before .before .before .before .args in
+    let a = c .before .before .before .before .before .before .before .before .before .before .before .args in
     a .cursor .place + 12 + c .before .code .given .0 .1 .0 ≤ length (a .s .now)
 fits c =
-    let a = c .before .before .before .before .before .before .before .before .before .before .before .before .before .args in
+    let a = c .before .before .before .before .before .before .before .before .before .before .before .args in
     let code = c .before .code .given .0 .0 in
     let size = c .before .code .given .0 .1 .0 in
     chunk-ends (a .order) (a .s .now) (a .cursor .place) code size (is-chunk (a .order) (drop (a .cursor .place) (a .s .now)) code size (here c))
@@ -113,14 +104,14 @@ enum-known-d c = search needs
 -- the data that was asked for
 asked : (c : tie.After-known-told2) →
     let k = c .before .before .before .before .before .before in
-    let a = k .before .before .before .before .before .before .before .before .before .before .before .before .before .args in
+    let a = k .before .before .before .before .before .before .before .before .before .before .before .args in
     gives (c .before .d .given .0 .0) ≡ readyData (effectIn (a .order) (drop (a .cursor .place) (a .s .now)) (k .before .code .given .0 .0) (k .before .code .given .0 .1 .0) (a .cursor .state) .says)
 asked c = rw (c .before .d .given .1, c .before .before .before .before .kind-of .ensures) at (c .before .before .before .data-at .ensures)
 
 plan-in-requires : tie.Need-plan-in-requires
 plan-in-requires c κs =
     let k = c .before .before .before .before .before .before in
-    let start = k .before .before .before .before .before .before .before .before .before .before .before .before .before in
+    let start = k .before .before .before .before .before .before .before .before .before .before .before in
     let a = start .args in
     let f = fits k in (
       has-time (a .order) (a .s .now) (a .cursor .place) (k .before .code .given .0 .0) (k .before .code .given .0 .1 .0) (a .cursor .state) f (c .before .d .given .0 .0) (asked c),
@@ -135,7 +126,7 @@ unfolding layoutAt
 returns-5 c =
     let h = c .before in
     let k = h .before .before .before .before .before .before in
-    let a = k .before .before .before .before .before .before .before .before .before .before .before .before .before .args in
+    let a = k .before .before .before .before .before .before .before .before .before .before .before .args in
     let code = k .before .code .given .0 .0 in
     let size = k .before .code .given .0 .1 .0 in
     let d = h .before .d .given .0 .0 in
@@ -150,7 +141,7 @@ unfolding layoutAt
 returns-6 c =
     let h = c .before .before in
     let k = h .before .before .before in
-    let a = k .before .before .before .before .before .before .before .before .before .before .before .before .before .args in
+    let a = k .before .before .before .before .before .before .before .before .before .before .before .args in
     let t = effectIn (a .order) (drop (a .cursor .place) (a .s .now)) (k .before .code .given .0 .0) (k .before .code .given .0 .1 .0) (a .cursor .state) in
     ((35, rw (step k) (sym (none-lies (a .float) (a .channel) (t .shown) (t .says) (k .before .code .given .0 .0) (rw (c .enum-told .given .1, h .before .kind-of .ensures) at (h .data-at .ensures)))), refl), tt)
 
@@ -159,8 +150,7 @@ plan-at-spec =
     tie.close
     (tie.spec
     returns
-    good-values-requires
-    good-lists-requires
+    fit-requires
     returns-2
     returns-3
     ahead-of-requires

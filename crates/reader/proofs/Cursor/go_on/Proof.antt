@@ -3,11 +3,9 @@ use mathlib.Core.Bool.{true, false}
 use mathlib.Core.Path.{_≡_, sym, _∙_}
 use native.Mathlib.Omega.{arith}
 use lib.ListN.{drop, length-drop}
-use Rattle.num.specs.Choice.{both}
 use Rattle.frame.specs.Place.{shows}
 use Rattle.frame.specs.declared.At.the-variants.{Complete}
 use Rattle.frame.proofs.Looks.{is-chunk}
-use Rattle.state.specs.Good.{goodState}
 use Rattle.reader.specs.Step.{stepBy, stepOf, unfit}
 use Rattle.reader.proofs.Laws.{step-past, step-unfit, step-ahead, still-is-step, chunk-ends, chunk-body, chunk-size}
 use borrow.Author.Needs.{needs}
@@ -22,43 +20,36 @@ returns c =
     let a = c .before .before .before .args in
     rw (step-past (a .order) (a .s .now) (a .self) (c .before .if1 .taken)) (still-is-step (c .still .ensures))
 
-good-values-requires : tie.Need-good-values-requires
-good-values-requires c κs = search needs
-
-good-lists-requires : tie.Need-good-lists-requires
-good-lists-requires c κs = search needs
-
--- the two halves that are tested are the test of number 3
-halves : (c : tie.After-good-lists) → goodState (c .before .before .before .before .before .args .self .state) ≡ both (c .before .good-values .result) (c .good-lists .result)
-halves c = rw (c .before .good-values .ensures, c .good-lists .ensures)
+fit-requires : tie.Need-fit-requires
+fit-requires c κs = search needs
 
 still-requires-2 : tie.Need-still-requires-2
 still-requires-2 c κs = search needs
 
 returns-2 : tie.Need-returns-2
 returns-2 c =
-    let a = c .before .before .before .before .before .before .before .before .args in
-    let k : unfit (a .self) ≡ true = rw (halves (c .before .before .before)) (c .before .if2 .taken) in
-    rw (step-unfit (a .order) (a .s .now) (a .self) (c .before .before .before .before .before .before .if1 .left) k) (still-is-step (c .still2 .ensures))
+    let a = c .before .before .before .before .before .before .args in
+    let k : unfit (a .self) ≡ true = rw (← c .before .before .before .fit .ensures) (c .before .if2 .taken) in
+    rw (step-unfit (a .order) (a .s .now) (a .self) (c .before .before .before .before .if1 .left) k) (still-is-step (c .still2 .ensures))
 
 -- past the test of number 3, it is not due
-fit : (c : tie.Else2) → unfit (c .before .before .before .before .before .before .before .args .self) ≡ false
-fit c = rw (halves (c .before .before)) (c .if2 .left)
+fit : (c : tie.Else2) → unfit (c .before .before .before .before .before .args .self) ≡ false
+fit c = rw (← c .before .before .fit .ensures) (c .if2 .left)
 
 -- what is ahead, and the step that it makes
 told : (c : tie.After-known-told) →
-    let a = c .before .before .before .before .before .before .before .before .before .before .before .args in
+    let a = c .before .before .before .before .before .before .before .before .before .args in
     shows (a .order) (drop (a .self .place) (a .s .now)) ≡ Complete (c .before .code .given .0 .0) (c .before .code .given .0 .1 .0)
 told c =
-    let a = c .before .before .before .before .before .before .before .before .before .before .before .args in
+    let a = c .before .before .before .before .before .before .before .before .before .args in
     is-chunk (a .order) (drop (a .self .place) (a .s .now)) (c .before .code .given .0 .0) (c .before .code .given .0 .1 .0)
     (sym (c .before .before .before .ahead-of .ensures) ∙ c .before .code .given .1)
 
 ahead : (c : tie.After-ahead-of) →
-    let a = c .before .before .before .before .before .before .before .before .args in
+    let a = c .before .before .before .before .before .before .args in
     stepOf (a .order) (a .s .now) (a .self) ≡ stepBy (a .order) (drop (a .self .place) (a .s .now)) (a .self) (c .ahead-of .result)
 ahead c =
-    let a = c .before .before .before .before .before .before .before .before .args in
+    let a = c .before .before .before .before .before .before .args in
     step-ahead (a .order) (a .s .now) (a .self) (omega arith) (fit (c .before)) ∙ rw (← c .ahead-of .ensures)
 
 ahead-of-requires : tie.Need-ahead-of-requires
@@ -78,7 +69,7 @@ add-from c = search needs
 
 add-to : tie.Need-add-to
 add-to c =
-    let a = c .before .before .before .before .before .before .before .before .before .before .before .args in
+    let a = c .before .before .before .before .before .before .before .before .before .args in
     record { fits = omega (arith, chunk-ends (a .order) (a .s .now) (a .self .place) (c .before .code .given .0 .0) (c .before .code .given .0 .1 .0) (told c)) }
 
 sub-chunk : tie.Need-sub-chunk
@@ -89,12 +80,12 @@ part-chunk-start c = search needs
 
 part-chunk-end : tie.Need-part-chunk-end
 part-chunk-end c =
-    let a = c .before .before .before .before .before .before .before .before .before .before .before .args in
+    let a = c .before .before .before .before .before .before .before .before .before .args in
     chunk-ends (a .order) (a .s .now) (a .self .place) (c .before .code .given .0 .0) (c .before .code .given .0 .1 .0) (told c)
 
 chunk-requires : tie.Need-chunk-requires
 chunk-requires c κs =
-    let a = c .before .before .before .before .before .before .before .before .before .before .before .before .args in
+    let a = c .before .before .before .before .before .before .before .before .before .before .args in
     let k = told (c .before) in
     let code = c .before .before .code .given .0 .0 in
     let size = c .before .before .code .given .0 .1 .0 in
@@ -122,7 +113,7 @@ returns-3 c = rw (ahead (c .before .before .before), c .before .enum-told .given
 
 returns-4 : tie.Need-returns-4
 returns-4 c =
-    let a = c .before .before .before .before .before .before .before .before .before .before .before .before .before .args in
+    let a = c .before .before .before .before .before .before .before .before .before .before .before .args in
     let k = told (c .before .before) in
     let code = c .before .before .before .code .given .0 .0 in
     let size = c .before .before .before .code .given .0 .1 .0 in
@@ -133,7 +124,7 @@ returns-4 c =
 returns-5 : tie.Need-returns-5
 returns-5 c =
     let h = c .before .before .before in
-    let a = h .before .before .before .before .before .before .before .before .args in
+    let a = h .before .before .before .before .before .before .args in
     rw (ahead h, c .before .enum-told2 .given .1, length-drop (a .self .place) (a .s .now)) (c .cut .ensures)
 
 returns-6 : tie.Need-returns-6
@@ -145,8 +136,7 @@ go-on-spec =
     (tie.spec
     still-requires
     returns
-    good-values-requires
-    good-lists-requires
+    fit-requires
     still-requires-2
     returns-2
     ahead-of-requires

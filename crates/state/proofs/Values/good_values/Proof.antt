@@ -1,4 +1,4 @@
--- Each call promises the test of one value, and the test of the values is those tests together.
+-- Each call promises the test of one value, and the test of the values is those tests together, with the counts'.
 use borrow.Author.Needs.{needs}
 use Rattle.state.specs.Good.{goodValues}
 use Rattle.state.proofs.Values.good_values.Statement.{statement}
@@ -34,16 +34,17 @@ good-head-requires c κs = search needs
 returns : tie.Need-returns
 unfolding goodValues
 returns c =
+    let h = c .before .before .before in
     rw (
-      c .good-head .ensures,
-      c .before .good-scale .ensures,
-      c .before .before .good-level2 .ensures,
-      c .before .before .before .good-level .ensures,
-      c .before .before .before .before .good-centre .ensures,
-      c .before .before .before .before .before .good-at-least2 .ensures,
-      c .before .before .before .before .before .before .good-band .ensures,
-      c .before .before .before .before .before .before .before .good-at-least .ensures,
-      c .before .before .before .before .before .before .before .before .good-packing .ensures,
+      h .good-head .ensures,
+      h .before .good-scale .ensures,
+      h .before .before .good-level2 .ensures,
+      h .before .before .before .good-level .ensures,
+      h .before .before .before .before .good-centre .ensures,
+      h .before .before .before .before .before .good-at-least2 .ensures,
+      h .before .before .before .before .before .before .good-band .ensures,
+      h .before .before .before .before .before .before .before .good-at-least .ensures,
+      h .before .before .before .before .before .before .before .before .good-packing .ensures,
     )
 
 pub good-values-spec : {M : Type 1} → statement M

@@ -11,10 +11,10 @@ use mir.Val.{toZ, ofZ}
 use Rattle.num.specs.Choice.{pick, each}
 use Rattle.num.proofs.Tests.{each-all}
 use Rattle.body.specs.declared.groups.GroupHertz.{GroupHertz}
-use Rattle.state.specs.Good.{anyNumber, isZero}
+use Rattle.state.specs.Good.{anyNumber, isZero, goodHertz}
 use Rattle.state.proofs.Powers.{powers, powers-none, powers-next, powers-fit, list-by}
-use Rattle.state.proofs.good.hertz_places.Statement.{statement}
-use Rattle.state.proofs.good.hertz_places.Tie as tie
+use Rattle.state.proofs.good.good_frequencies.Statement.{statement}
+use Rattle.state.proofs.good.good_frequencies.Tie as tie
 
 abbrev filledAt : GroupHertz → ℕ → Bool
 filledAt g c = not (isZero (getD (g .values) c (pos 0)))
@@ -76,6 +76,7 @@ within-requires : tie.Need-within-requires Inv-loop μ-loop
 within-requires c κs = search needs
 
 returns : tie.Need-returns Inv-loop μ-loop
+unfolding goodHertz
 returns c =
     let l = c .before .before .loop in
     let g = c .before .before .before .before .args .frequencies in
@@ -83,8 +84,8 @@ returns c =
     let all : each (λ d. anyNumber (getD (g .values) d (pos 0))) 16 ≡ true = each-all (λ d. anyNumber (getD (g .values) d (pos 0))) 16 (λ k h. refl) in
     c .within .ensures ∙ rw (l .inv .2, e) (rw all at (list-by anyNumber isZero (λ x h. refl) (g .n) (g .values) (pos 0) (l .inv .0)))
 
-pub hertz-places-spec : {M : Type 1} → statement M
-hertz-places-spec =
+pub good-frequencies-spec : {M : Type 1} → statement M
+good-frequencies-spec =
     tie.close
     (tie.spec
     Inv-loop

@@ -12,13 +12,13 @@ use lib.Pow.{pow-pos}
 use Rattle.num.specs.Choice.{pick, each}
 use Rattle.num.proofs.Tests.{each-none, each-more}
 use Rattle.body.specs.Levels.{isFinite}
-use Rattle.state.specs.Good.{isOffset, isNoOffset, isPlusZero}
+use Rattle.state.specs.Good.{isOffset, isNoOffset, isPlusZero, goodLists}
 use Rattle.state.specs.Sums.{bothParts, sumAt}
 use Rattle.state.proofs.Tests.{no-offset-small, plus-zero-finite, at-most}
 use Rattle.state.proofs.Powers.{powers, powers-none, powers-next, powers-fit, list-by}
 use Rattle.state.proofs.Agree.{alike, agree-by}
-use Rattle.state.proofs.good.places.Statement.{statement}
-use Rattle.state.proofs.good.places.Tie as tie
+use Rattle.state.proofs.good.good_lists.Statement.{statement}
+use Rattle.state.proofs.good.good_lists.Tie as tie
 
 abbrev Inv-loop : tie.InvT-loop
 Inv-loop group gains total offsets decibels present added base small₀ bounded₀ alike₀ a₀ b₀ marked₀ finites₀ i₀ small bounded same a b marked finites i =
@@ -196,21 +196,35 @@ power-requires-2 c κs =
     let n = bothParts (a .total) (a .gains) in
     rw (c .channels .ensures) (at-most n (ltb n 16) refl)
 
-rem-t43 : tie.Need-rem-t43 Inv-loop μ-loop
-rem-t43 c = rw (c .power2 .ensures) (pow-pos (c .before .channels .result))
+rem-result : tie.Need-rem-result Inv-loop μ-loop
+rem-result c = rw (c .power2 .ensures) (pow-pos (c .before .channels .result))
 
 returns : tie.Need-returns Inv-loop μ-loop
+unfolding goodLists
 returns c =
     let l = c .before .before .before .before .before .loop in
     let a = c .before .before .before .before .before .before .before .before .before .before .args in
-    let e : l .i ≡ 16 = omega arith in (
-      rw (c .before .before .before .within .ensures, l .inv .3, l .inv .4, e) (list-by isOffset isNoOffset no-offset-small (a .group .n) (a .group .offsets) 0 (l .inv .0)),
-      rw (c .before .before .within2 .ensures, l .inv .5, l .inv .6, e) (list-by isFinite isPlusZero plus-zero-finite (a .gains .n) (a .gains .values) nan (l .inv .1)),
-      rw (l .inv .7, l .inv .8, l .inv .9, e, c .power2 .ensures, c .before .channels .ensures) (agree-by (a .total) (a .gains) (a .sums)),
+    let e : l .i ≡ 16 = omega arith in
+    rw (
+      c .before .before .before .within .ensures,
+      c .before .before .within2 .ensures,
+      c .power2 .ensures,
+      c .before .channels .ensures,
+      l .inv .3,
+      l .inv .4,
+      l .inv .5,
+      l .inv .6,
+      l .inv .7,
+      l .inv .8,
+      l .inv .9,
+      e,
+      list-by isOffset isNoOffset no-offset-small (a .group .n) (a .group .offsets) 0 (l .inv .0),
+      list-by isFinite isPlusZero plus-zero-finite (a .gains .n) (a .gains .values) nan (l .inv .1),
+      agree-by (a .total) (a .gains) (a .sums),
     )
 
-pub places-spec : {M : Type 1} → statement M
-places-spec =
+pub good-lists-spec : {M : Type 1} → statement M
+good-lists-spec =
     tie.close
     (tie.spec
     Inv-loop
@@ -244,5 +258,5 @@ places-spec =
     within-requires-2
     channels-requires
     power-requires-2
-    rem-t43
+    rem-result
     returns)
