@@ -1,19 +1,19 @@
 -- After i turns: the verdict on the first i places of each list and of the sums, and the powers of the places that hold
 -- something, are flagged, or have a finite sum, added.
-use Prim.Native.Nat.{ℕ, _-_, _^_, _≤_}
-use mathlib.Core.Path.{_≡_, refl, sym, _∙_}
+use Prim.Native.Nat.{ℕ, _-_, _^_, _%_, _≤_}
+use mathlib.Core.Path.{_≡_, refl, sym, ap₂, _∙_}
 use mathlib.Core.Bool.{Bool, false, not}
 use native.Mathlib.Omega.{arith}
 use borrow.Author.Needs.{needs}
-use lib.Dec.{ltb}
+use lib.Dec.{eqb, ltb}
 use lib.Ieee.{nan, binary32, ofBits, add}
 use lib.ListN.{length, getD}
 use lib.Pow.{pow-pos}
-use Rattle.num.specs.Choice.{pick, each}
+use Rattle.num.specs.Choice.{pick, both, each}
 use Rattle.num.proofs.Tests.{each-none, each-more}
 use Rattle.body.specs.Levels.{isFinite}
-use Rattle.state.specs.Good.{isOffset, isNoOffset, isPlusZero, goodLists}
-use Rattle.state.specs.Sums.{bothParts, sumAt}
+use Rattle.state.specs.Good.{isOffset, isNoOffset, isPlusZero, goodFrom, goodLists}
+use Rattle.state.specs.Sums.{bothParts, sumAt, agree}
 use Rattle.state.proofs.Tests.{no-offset-small, plus-zero-finite, at-most}
 use Rattle.state.proofs.Powers.{powers, powers-none, powers-next, powers-fit, list-by}
 use Rattle.state.proofs.Agree.{alike, agree-by}
@@ -205,23 +205,14 @@ returns c =
     let l = c .before .before .before .before .before .loop in
     let a = c .before .before .before .before .before .before .before .before .before .before .args in
     let e : l .i ≡ 16 = omega arith in
-    rw (
-      c .before .before .before .within .ensures,
-      c .before .before .within2 .ensures,
-      c .power2 .ensures,
-      c .before .channels .ensures,
-      l .inv .3,
-      l .inv .4,
-      l .inv .5,
-      l .inv .6,
-      l .inv .7,
-      l .inv .8,
-      l .inv .9,
-      e,
-      list-by isOffset isNoOffset no-offset-small (a .group .n) (a .group .offsets) 0 (l .inv .0),
-      list-by isFinite isPlusZero plus-zero-finite (a .gains .n) (a .gains .values) nan (l .inv .1),
-      agree-by (a .total) (a .gains) (a .sums),
-    )
+    let w = c .before .before .before in
+    let offsets : both (l .small) (w .within .result) ≡ goodFrom isOffset isNoOffset (a .group .n) 0 (a .group .offsets) =
+    rw (w .within .ensures, l .inv .3, l .inv .4, e) (list-by isOffset isNoOffset no-offset-small (a .group .n) (a .group .offsets) 0 (l .inv .0)) in
+    let decibels : both (l .bounded) (c .before .before .within2 .result) ≡ goodFrom isFinite isPlusZero (a .gains .n) 0 (a .gains .values) =
+    rw (c .before .before .within2 .ensures, l .inv .5, l .inv .6, e) (list-by isFinite isPlusZero plus-zero-finite (a .gains .n) (a .gains .values) nan (l .inv .1)) in
+    let sums : both (l .alike) (eqb (l .marked) (l .finites % c .power2 .result)) ≡ agree (a .total) (a .gains) (a .sums) =
+    rw (l .inv .7, l .inv .8, l .inv .9, e, c .power2 .ensures, c .before .channels .ensures) (agree-by (a .total) (a .gains) (a .sums)) in
+    ap₂ both (ap₂ both offsets decibels) sums
 
 pub good-lists-spec : {M : Type 1} → statement M
 good-lists-spec =
