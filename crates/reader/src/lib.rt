@@ -11,7 +11,7 @@ ghost use Rattle.effect.specs.Effect.{effect};
 ghost use Rattle.effect.specs.Ready.{noState};
 ghost use Rattle.frame.specs.Frames.{width, first};
 ghost use Rattle.frame.specs.Place.{headerSize, gap};
-ghost use Rattle.state.specs.Good.{allGood};
+ghost use Rattle.state.specs.Good.{goodHeld};
 ghost use Rattle.state.specs.State.{withMark};
 ghost use Rattle.reader.specs.Cause.{causeOf};
 ghost use Rattle.reader.specs.Item.{itemSaid, itemNumber};
@@ -201,7 +201,7 @@ impl Cursor {
 // Whether a state may hold these values, which is the test behind number 3. It is asked in three calls, and each list is a
 // variable of its own, so that the compiler inlines the calls and copies no list.
 fn fit(values: Values) -> bool
-    ensures { λ r. ⌜ r ≡ allGood values ⌝ }
+    ensures { λ r. ⌜ r ≡ goodHeld values ⌝ }
 {
     let group = values.group;
     let gains = values.gains;

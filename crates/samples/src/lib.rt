@@ -17,7 +17,7 @@ ghost use Rattle.frame.specs.Place.{headerSize};
 ghost use Rattle.body.specs.Table.{shaped};
 ghost use Rattle.effect.specs.Effect.{effect};
 ghost use Rattle.effect.specs.Ready.{readyData, askedSaid};
-ghost use Rattle.state.specs.Good.{allGood};
+ghost use Rattle.state.specs.Good.{goodHeld};
 ghost use Rattle.samples.specs.Inner.Plan.{layoutSaid, numberBytes, Plans, Tells, Sound};
 ghost use Rattle.samples.specs.Copy.{layoutAt, samplesAt};
 use body::Data;
@@ -214,7 +214,7 @@ fn plan_in(
 // Whether a state may hold these values, which is the test behind number 3. It is asked in three calls, and each list is a
 // variable of its own, so that the compiler inlines the calls and copies no list.
 fn fit(values: Values) -> bool
-    ensures { λ r. ⌜ r ≡ allGood values ⌝ }
+    ensures { λ r. ⌜ r ≡ goodHeld values ⌝ }
 {
     let group = values.group;
     let gains = values.gains;

@@ -3,14 +3,11 @@
 use Prim.Native.Nat.{ℕ, zero, suc, _<_, _≤_}
 use mathlib.Core.Path.{_≡_, refl, sym, _∙_}
 use mathlib.Core.Bool.{Bool, true, false}
-use lib.Dec.{ltb, leb}
+use lib.Dec.{ltb}
 use lib.Ieee.{ofBits, toBits}
-use lib.IntN.{pos}
-use lib.Signed.{leZ}
 use borrow.Author.Tests.{le-leb, ltb-true}
 use Rattle.num.specs.Choice.{pick, each}
 use Rattle.num.proofs.Tests.{both-true}
-use Rattle.body.specs.Levels.{isFinite}
 use Rattle.body.specs.Lists.{upto, sixteen}
 use Rattle.body.specs.Table.{Slot, packing, rate, band, groupBand, centre, fullScale, totalGain, floatScale, group, frequencies, gains, Value, none}
 use Rattle.state.specs.declared.Values.{Values}
@@ -18,37 +15,31 @@ use Rattle.state.specs.declared.State.{State}
 use Rattle.state.specs.State.{emptied, setIn, withValues}
 use Rattle.state.specs.Sums.{sumsOf, agree}
 use Rattle.state.proofs.Agree.{own-agree}
-use Rattle.state.specs.Good.{zeroOrOne, anyNumber, isZero, isPlusZero, isScale, isOffset, isNoOffset, goodNumber, goodBand, goodLevel, goodFrom, goodList, goodHead, goodIn, goodState, goodValues, goodLists, goodHertz}
+use Rattle.state.specs.Good.{goodFrom, goodList, goodIn, goodNumbers, goodHeld, goodState}
 
 -- ---- the parts of a good state
 
 pub record Parts (v : Values) : Type 0 where
-  pub packing : goodNumber zeroOrOne (v .packing) ≡ true
-  pub rate : goodNumber (leZ (pos 1)) (v .rate) ≡ true
-  pub band : goodBand (v .band) ≡ true
-  pub group-band : goodNumber (leZ (pos 0)) (v .«group_band») ≡ true
-  pub centre : goodNumber anyNumber (v .centre) ≡ true
-  pub full-scale : goodLevel isFinite (v .«full_scale») ≡ true
-  pub total-gain : goodLevel isFinite (v .«total_gain») ≡ true
-  pub float-scale : goodLevel isScale (v .«float_scale») ≡ true
-  pub head : goodHead (v .group) ≡ true
-  pub offset-count : leb (v .group .n) 16 ≡ true
-  pub offsets : goodFrom isOffset isNoOffset (v .group .n) 0 (v .group .offsets) ≡ true
-  pub frequency-count : leb (v .frequencies .n) 16 ≡ true
-  pub frequencies : goodHertz (v .frequencies) ≡ true
-  pub gain-count : leb (v .gains .n) 16 ≡ true
-  pub gains : goodFrom isFinite isPlusZero (v .gains .n) 0 (v .gains .values) ≡ true
+  pub packing : goodIn packing (v .packing) ≡ true
+  pub rate : goodIn rate (v .rate) ≡ true
+  pub band : goodIn band (v .band) ≡ true
+  pub group-band : goodIn groupBand (v .«group_band») ≡ true
+  pub centre : goodIn centre (v .centre) ≡ true
+  pub full-scale : goodIn fullScale (v .«full_scale») ≡ true
+  pub total-gain : goodIn totalGain (v .«total_gain») ≡ true
+  pub float-scale : goodIn floatScale (v .«float_scale») ≡ true
+  pub group : goodIn group (v .group) ≡ true
+  pub frequencies : goodIn frequencies (v .frequencies) ≡ true
+  pub gains : goodIn gains (v .gains) ≡ true
   pub sums : agree (v .«total_gain») (v .gains) (v .sums) ≡ true
 
 pub good-parts : (s : State) → goodState s ≡ true → Parts (s .values)
-unfolding goodValues goodLists goodHertz
+unfolding goodHeld goodNumbers
 good-parts s g =
-    let three = both-true _ _ g in
-    let two = both-true _ _ (three .0) in
-    let gain-count = both-true _ _ (two .0) in
-    let frequency-count = both-true _ _ (gain-count .0) in
-    let offset-count = both-true _ _ (frequency-count .0) in
-    let h = both-true _ _ (offset-count .0) in
+    let m = both-true _ _ g in
+    let l = both-true _ _ (m .0) in
+    let k = both-true _ _ (l .0) in
+    let h = both-true _ _ (k .0) in
     let f = both-true _ _ (h .0) in
     let e = both-true _ _ (f .0) in
     let d = both-true _ _ (e .0) in
@@ -56,8 +47,6 @@ good-parts s g =
     let b = both-true _ _ (c .0) in
     let a = both-true _ _ (b .0) in
     let p = both-true _ _ (a .0) in
-    let m = both-true _ _ (two .1) in
-    let l = both-true _ _ (m .0) in
     record {
       packing = p .0;
       rate = p .1;
@@ -67,12 +56,8 @@ good-parts s g =
       full-scale = d .1;
       total-gain = e .1;
       float-scale = f .1;
-      head = h .1;
-      offset-count = offset-count .1;
-      offsets = l .0;
-      frequency-count = frequency-count .1;
-      frequencies = three .1;
-      gain-count = gain-count .1;
+      group = h .1;
+      frequencies = k .1;
       gains = l .1;
       sums = m .1;
     }
@@ -81,7 +66,7 @@ good-parts s g =
 -- the state's test changes
 
 pub set-good : (x : Slot) (a : Value x) (s : State) → goodState s ≡ true → goodIn x a ≡ true → goodState (withValues s (setIn x a (s .values))) ≡ true
-unfolding goodValues goodLists goodHertz
+unfolding goodHeld goodNumbers
 set-good packing a s g h = rw (h ∙ sym (good-parts s g .packing)) g
 set-good rate a s g h = rw (h ∙ sym (good-parts s g .rate)) g
 set-good band a s g h = rw (h ∙ sym (good-parts s g .band)) g
@@ -92,20 +77,12 @@ set-good totalGain a s g h =
     let p = good-parts s g in
     rw (h ∙ sym (p .total-gain), own-agree a (s .values .gains) (sumsOf a (s .values .gains)) refl ∙ sym (p .sums)) g
 set-good floatScale a s g h = rw (h ∙ sym (good-parts s g .float-scale)) g
-set-good group a s g h =
-    let p = good-parts s g in
-    let q = both-true (goodHead a) (goodList isOffset isNoOffset (a .n) (a .offsets)) h in
-    let l = both-true (leb (a .n) 16) (goodFrom isOffset isNoOffset (a .n) 0 (a .offsets)) (q .1) in
-    rw (q .0 ∙ sym (p .head), l .0 ∙ sym (p .offset-count), l .1 ∙ sym (p .offsets)) g
-set-good frequencies a s g h =
-    let p = good-parts s g in
-    let l = both-true (leb (a .n) 16) (goodFrom anyNumber isZero (a .n) 0 (a .values)) h in
-    rw (l .0 ∙ sym (p .frequency-count), l .1 ∙ sym (p .frequencies)) g
+set-good group a s g h = rw (h ∙ sym (good-parts s g .group)) g
+set-good frequencies a s g h = rw (h ∙ sym (good-parts s g .frequencies)) g
 set-good gains a s g h =
     let p = good-parts s g in
     let t = s .values .«total_gain» in
-    let l = both-true (leb (a .n) 16) (goodFrom isFinite isPlusZero (a .n) 0 (a .values)) h in
-    rw (l .0 ∙ sym (p .gain-count), l .1 ∙ sym (p .gains), own-agree t a (sumsOf t a) refl ∙ sym (p .sums)) g
+    rw (h ∙ sym (p .gains), own-agree t a (sumsOf t a) refl ∙ sym (p .sums)) g
 
 -- ---- absent values
 
@@ -124,7 +101,7 @@ none-good frequencies = refl
 none-good gains = refl
 
 pub empty-good : (m : Bool) → goodState (emptied m) ≡ true
-unfolding goodValues goodLists goodHertz goodFrom ofBits each upto toBits
+unfolding goodHeld goodNumbers goodFrom ofBits each upto toBits
 empty-good m = refl
 
 -- ---- lists

@@ -4,3 +4,4 @@ pub mod Agree
 pub mod Slots
 pub mod Tests
 pub mod Powers
+pub mod GoodParts

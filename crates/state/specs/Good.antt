@@ -18,7 +18,6 @@ use Rattle.body.specs.declared.values.Held.{Held}
 use Rattle.body.specs.declared.values.BandHeld.{BandHeld}
 use Rattle.body.specs.declared.values.LevelHeld.{LevelHeld}
 use Rattle.state.specs.Sums.{agree}
-use Rattle.state.specs.declared.sums.GainSums.{GainSums}
 use Rattle.state.specs.declared.Values.{Values}
 use Rattle.state.specs.declared.State.{State}
 
@@ -103,9 +102,9 @@ goodIn group g = goodGroup g
 goodIn frequencies g = goodFrequencies g
 goodIn gains g = goodGains g
 
--- the values that are no lists are good, and so is the head of the group packing; each list has up to 16 channels
-unfoldable pub goodValues : Values → Bool
-goodValues v =
+-- every slot that has no list holds what it may
+unfoldable pub goodNumbers : Values → Bool
+goodNumbers v =
     goodIn packing (v .packing)
     && goodIn rate (v .rate)
     && goodIn band (v .band)
@@ -114,29 +113,16 @@ goodValues v =
     && goodIn fullScale (v .«full_scale»)
     && goodIn totalGain (v .«total_gain»)
     && goodIn floatScale (v .«float_scale»)
-    && goodHead (v .group)
-    && leb (v .group .n) 16
-    && leb (v .frequencies .n) 16
-    && leb (v .gains .n) 16
 
--- the places of the offsets and of the gains are good, and the sums agree with their parts
-unfoldable pub goodLists : GroupPacking → GroupGains → LevelHeld → GainSums → Bool
-goodLists g a total sums =
-    goodFrom isOffset isNoOffset (g .n) 0 (g .offsets)
-    && goodFrom isFinite isPlusZero (a .n) 0 (a .values)
-    && agree total a sums
+-- every slot holds what it may, and the sums agree with their parts
+unfoldable pub goodHeld : Values → Bool
+goodHeld v =
+    goodNumbers v
+    && goodIn group (v .group)
+    && goodIn frequencies (v .frequencies)
+    && goodIn gains (v .gains)
+    && agree (v .«total_gain») (v .gains) (v .sums)
 
--- the places of the frequencies are good
-unfoldable pub goodHertz : GroupHertz → Bool
-goodHertz h = goodFrom anyNumber isZero (h .n) 0 (h .values)
-
--- every value is good, and so are the sums
-abbrev pub allGood : Values → Bool
-allGood v =
-    goodValues v
-    && goodLists (v .group) (v .gains) (v .«total_gain») (v .sums)
-    && goodHertz (v .frequencies)
-
--- the mark may be set or not
+-- a state is good by its values; the mark may be set or not
 abbrev pub goodState : State → Bool
-goodState s = allGood (s .values)
+goodState s = goodHeld (s .values)

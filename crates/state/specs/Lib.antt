@@ -1,3 +1,4 @@
 pub mod Sums
 pub mod State
 pub mod Good
+pub mod GoodParts

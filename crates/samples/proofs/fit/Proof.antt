@@ -1,5 +1,6 @@
 -- The three calls promise the three parts of the test.
 use borrow.Author.Needs.{needs}
+use Rattle.state.proofs.GoodParts.{parts-good}
 use Rattle.samples.proofs.fit.Statement.{statement}
 use Rattle.samples.proofs.fit.Tie as tie
 
@@ -13,7 +14,9 @@ good-frequencies-requires : tie.Need-good-frequencies-requires
 good-frequencies-requires c κs = search needs
 
 returns : tie.Need-returns
-returns c = rw (c .good-frequencies .ensures, c .before .good-lists .ensures, c .before .before .good-values .ensures)
+returns c =
+    rw (c .good-frequencies .ensures, c .before .good-lists .ensures, c .before .before .good-values .ensures)
+    (parts-good (c .before .before .before .before .before .before .before .args .values))
 
 pub fit-spec : {M : Type 1} → statement M
 fit-spec = tie.close (tie.spec good-values-requires good-lists-requires good-frequencies-requires returns)

@@ -1,6 +1,7 @@
 -- Each call promises the test of one value, and the test of the values is those tests together, with the counts'.
 use borrow.Author.Needs.{needs}
-use Rattle.state.specs.Good.{goodValues}
+use Rattle.state.specs.Good.{goodNumbers}
+use Rattle.state.specs.GoodParts.{goodValues}
 use Rattle.state.proofs.Values.good_values.Statement.{statement}
 use Rattle.state.proofs.Values.good_values.Tie as tie
 
@@ -32,7 +33,7 @@ good-head-requires : tie.Need-good-head-requires
 good-head-requires c κs = search needs
 
 returns : tie.Need-returns
-unfolding goodValues
+unfolding goodValues goodNumbers
 returns c =
     let h = c .before .before .before in
     rw (

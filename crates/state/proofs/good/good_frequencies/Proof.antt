@@ -11,7 +11,8 @@ use mir.Val.{toZ, ofZ}
 use Rattle.num.specs.Choice.{pick, each}
 use Rattle.num.proofs.Tests.{each-all}
 use Rattle.body.specs.declared.groups.GroupHertz.{GroupHertz}
-use Rattle.state.specs.Good.{anyNumber, isZero, goodHertz}
+use Rattle.state.specs.Good.{anyNumber, isZero}
+use Rattle.state.specs.GoodParts.{goodHertz}
 use Rattle.state.proofs.Powers.{powers, powers-none, powers-next, powers-fit, list-by}
 use Rattle.state.proofs.good.good_frequencies.Statement.{statement}
 use Rattle.state.proofs.good.good_frequencies.Tie as tie

@@ -12,7 +12,8 @@ use lib.Pow.{pow-pos}
 use Rattle.num.specs.Choice.{pick, both, each}
 use Rattle.num.proofs.Tests.{each-none, each-more}
 use Rattle.body.specs.Levels.{isFinite}
-use Rattle.state.specs.Good.{isOffset, isNoOffset, isPlusZero, goodFrom, goodLists}
+use Rattle.state.specs.Good.{isOffset, isNoOffset, isPlusZero, goodFrom}
+use Rattle.state.specs.GoodParts.{goodLists}
 use Rattle.state.specs.Sums.{bothParts, sumAt, agree}
 use Rattle.state.proofs.Tests.{no-offset-small, plus-zero-finite, at-most}
 use Rattle.state.proofs.Powers.{powers, powers-none, powers-next, powers-fit, list-by}
