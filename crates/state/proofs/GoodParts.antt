@@ -1,4 +1,4 @@
--- The three parts in which the code asks the test of a state's values are the test of all its slots: the same tests in another order.
+-- The three parts in which the code asks the test of a state's values are together the test of every slot and of the sums.
 use mathlib.Core.Path.{_≡_, refl}
 use mathlib.Core.Bool.{Bool, true, false, _&&_}
 use lib.Dec.{leb}
@@ -8,8 +8,8 @@ use Rattle.state.specs.Sums.{agree}
 use Rattle.state.specs.GoodParts.{goodValues, goodLists, goodHertz}
 use Rattle.state.specs.declared.Values.{Values}
 
--- numbers, the head of the group packing and the counts of the three lists; the places of two lists, and the sums; the places of the
--- frequencies: or list by list
+-- On the left is the order of the code: the numbers, the head of the group packing and the counts of the three lists; then the places
+-- of the offsets and of the gains, and the sums; then the places of the frequencies. On the right each list stands with its count.
 in-order : (numbers head offset-count frequency-count gain-count offsets gains sums frequencies : Bool) →
     ((numbers && head && offset-count && frequency-count && gain-count) && (offsets && gains && sums) && frequencies)
     ≡ (numbers && (head && (offset-count && offsets)) && (frequency-count && frequencies) && (gain-count && gains) && sums)

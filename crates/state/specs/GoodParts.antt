@@ -1,5 +1,5 @@
--- The test of a state's values in the three parts in which the code asks it, each short enough for a compiler to inline. That they are
--- the test of all slots is the law `parts-good`.
+-- The test of a state's values in the three parts in which the code asks it, each short enough for a compiler to inline. That the
+-- three together are the test of every slot and of the sums is the law `parts-good`.
 use mathlib.Core.Bool.{Bool, _&&_}
 use lib.Dec.{leb}
 use Rattle.body.specs.Levels.{isFinite}

@@ -153,7 +153,7 @@ fn same(x: f32, y: f32) -> bool
 }
 
 // The second part of the test behind number 3: whether the places of the offsets and of the gains hold what they may, and
-// the sums agree with their parts.
+// whether the sums agree with their parts.
 // In each list the first n places are used, and the others hold 0: `a` and `b` have the powers of two of the places that
 // hold something else, added, and are below 2 to the power of n. An offset fits an int32, and a gain is finite.
 // A flagged channel holds its sum, in every bit, and any other holds 0. The flagged ones are those that have both parts
@@ -227,8 +227,8 @@ fn good_head(g: GroupPacking) -> bool
 }
 
 impl Values {
-    // The first part of the test behind number 3: whether the values that are no lists may stand in a state, and so the
-    // head of the group packing and the counts of the lists.
+    // The first part of the test behind number 3: whether a state may hold the values that are no lists, the head of the
+    // group packing and the counts of the lists.
     pub fn good_values(self) -> bool
         ensures { λ r. ⌜ r ≡ goodValues self ⌝ }
     {
