@@ -1,5 +1,7 @@
 // Short texts that say what an answer means, handed back by value. A refusal has one text, by its number, whichever
 // call answered with it.
+#![tactic(auto)]
+
 ghost use Rattle.std.specs.Prelude.{◌≡◌};
 ghost use Rattle.effect.specs.Says.{lack_number, verdict_said};
 ghost use Rattle.body.specs.Fault.{fault_number};

@@ -1,4 +1,6 @@
 // The library's work behind plain numbers and slices, for a program that measures it.
+#![tactic(auto)]
+
 ghost use Rattle.std.specs.Prelude.{◌≡◌, true, false, ◌≤◌, length};
 ghost use Rattle.num.specs.Answer.{refusal};
 ghost use Rattle.body.specs.Plain.{text};
@@ -69,7 +71,7 @@ fn sound_in(item: Item) -> usize
 }
 
 // How far a reader came, and how many sound items it saw.
-#[derive(Drop)]
+#[derive(Clone, Copy)]
 struct Walked {
     cursor: Cursor,
     sound: usize,

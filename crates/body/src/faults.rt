@@ -3,7 +3,7 @@ ghost use Rattle.std.specs.Prelude.{◌≡◌};
 ghost use Rattle.body.specs.Fault.{fault_number};
 
 // What is wrong with a body.
-#[derive(Drop)]
+#[derive(Clone, Copy)]
 pub enum Fault {
     // The size is not that of the kind, or a text's length does not fit: number 11.
     Size,
@@ -33,7 +33,7 @@ impl Fault {
 }
 
 // Whether a body is well-formed, or what is wrong with it.
-#[derive(Drop)]
+#[derive(Clone, Copy)]
 pub enum Checked {
     Good,
     Malformed(Fault),

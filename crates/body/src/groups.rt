@@ -19,7 +19,7 @@ pub const PACKING_HEAD: usize = 12;
 // GIQP: how the pairs of a group chunk are packed. n is the number of channels, 0 where the value is absent; iq says
 // whether I stands before Q; increment is the step from one sample of a channel to its next, in pairs; offsets has the
 // first pair of each channel, and 0 in the places from n on.
-#[derive(Drop)]
+#[derive(Clone, Copy)]
 pub struct GroupPacking {
     pub n: usize,
     pub iq: bool,
@@ -28,41 +28,41 @@ pub struct GroupPacking {
 }
 
 // GCF_: a frequency for each of n channels, in µHz. n is 0 where the value is absent; the places from n on hold 0.
-#[derive(Drop)]
+#[derive(Clone, Copy)]
 pub struct GroupHertz {
     pub n: usize,
     pub values: [i64; 16],
 }
 
 // GRG_: a gain for each of n channels, in dB. n is 0 where the value is absent; the places from n on hold 0.
-#[derive(Drop)]
+#[derive(Clone, Copy)]
 pub struct GroupGains {
     pub n: usize,
     pub values: [f32; 16],
 }
 
 // The verdict on a GIQP body, and its value, which is absent where the body is malformed.
-#[derive(Drop)]
+#[derive(Clone, Copy)]
 pub struct GroupPackingRead {
     pub checked: Checked,
     pub packing: GroupPacking,
 }
 
 // The same of a GCF_ body.
-#[derive(Drop)]
+#[derive(Clone, Copy)]
 pub struct GroupHertzRead {
     pub checked: Checked,
     pub hertz: GroupHertz,
 }
 
 // The same of a GRG_ body.
-#[derive(Drop)]
+#[derive(Clone, Copy)]
 pub struct GroupGainsRead {
     pub checked: Checked,
     pub gains: GroupGains,
 }
 
-#[derive(Drop)]
+#[derive(Clone, Copy)]
 enum ChannelsRead {
     Is(usize),
     Malformed(Fault),

@@ -6,7 +6,7 @@ ghost use Rattle.body.specs.Kind.{code_of, kind_of};
 use num::Order;
 
 // The 22 kinds, by the letters of their types without the underscores, and every other type.
-#[derive(Drop)]
+#[derive(Clone, Copy)]
 pub enum Kind {
     SSNC,
     SSNR,

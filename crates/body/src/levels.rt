@@ -9,7 +9,7 @@ use crate::faults::Fault;
 use num::Order;
 
 // A level is one of three kinds, each with a finite number.
-#[derive(Drop)]
+#[derive(Clone, Copy)]
 pub enum Level {
     // The input level, in dBm, of a full swing.
     FullScale(f32),
@@ -20,13 +20,13 @@ pub enum Level {
 }
 
 // The level in a body, or what is wrong with the body.
-#[derive(Drop)]
+#[derive(Clone, Copy)]
 pub enum LevelRead {
     Is(Level),
     Malformed(Fault),
 }
 
-#[derive(Drop)]
+#[derive(Clone, Copy)]
 enum FloatRead {
     Is(f32),
     Malformed(Fault),

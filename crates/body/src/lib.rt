@@ -1,4 +1,6 @@
 // Bodies: the 22 kinds, and for each a checker of its body, which answers on any slice.
+#![tactic(auto)]
+
 pub mod faults;
 pub mod groups;
 pub mod kinds;

@@ -6,21 +6,21 @@ use crate::faults::Fault;
 use num::Order;
 
 // The number in a body, or what is wrong with the body.
-#[derive(Drop)]
+#[derive(Clone, Copy)]
 pub enum NumberRead {
     Is(i64),
     Malformed(Fault),
 }
 
 // A bandwidth and its offset from the centre frequency, in µHz.
-#[derive(Drop)]
+#[derive(Clone, Copy)]
 pub struct Band {
     pub width: i64,
     pub offset: i64,
 }
 
 // The bandwidth and offset in a body, or what is wrong with the body.
-#[derive(Drop)]
+#[derive(Clone, Copy)]
 pub enum BandRead {
     Is(Band),
     Malformed(Fault),

@@ -7,7 +7,7 @@ use crate::faults::{Checked, Fault};
 use num::Order;
 
 // The length of the text in a body, or what is wrong with the body. The text starts at place 4 of the body.
-#[derive(Drop)]
+#[derive(Clone, Copy)]
 pub enum TextRead {
     Is(usize),
     Malformed(Fault),

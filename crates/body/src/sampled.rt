@@ -8,7 +8,7 @@ use crate::kinds::Kind;
 use num::Order;
 
 // What the samples of a data kind are: 16-bit numbers or floats; pairs, reals, or the pairs of a group.
-#[derive(Drop)]
+#[derive(Clone, Copy)]
 pub enum Shape {
     ShortPairs,
     ShortReals,
@@ -19,21 +19,21 @@ pub enum Shape {
 }
 
 // The shape of a kind's samples, or that the kind is no data.
-#[derive(Drop)]
+#[derive(Clone, Copy)]
 pub enum Shaped {
     Samples(Shape),
     NoSamples,
 }
 
 // The time of the first sample, in nanoseconds since 1970, and how many samples follow: pairs, or reals.
-#[derive(Drop)]
+#[derive(Clone, Copy)]
 pub struct Data {
     pub time: i64,
     pub samples: usize,
 }
 
 // The time and the count of samples in a data body, or what is wrong with the body.
-#[derive(Drop)]
+#[derive(Clone, Copy)]
 pub enum DataRead {
     Is(Data),
     Malformed(Fault),

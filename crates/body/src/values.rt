@@ -3,14 +3,14 @@ ghost use Rattle.std.specs.Prelude.{◌≡◌};
 ghost use Rattle.body.specs.Values.{no_number, no_band, no_level};
 
 // A whole number that a chunk set, or 0 where it is absent.
-#[derive(Drop)]
+#[derive(Clone, Copy)]
 pub struct Held {
     pub present: bool,
     pub value: i64,
 }
 
 // A bandwidth and its offset, absent or present together. Absent, both are 0.
-#[derive(Drop)]
+#[derive(Clone, Copy)]
 pub struct BandHeld {
     pub present: bool,
     pub width: i64,
@@ -18,7 +18,7 @@ pub struct BandHeld {
 }
 
 // A level that a chunk set, or the float with pattern 0 where it is absent.
-#[derive(Drop)]
+#[derive(Clone, Copy)]
 pub struct LevelHeld {
     pub present: bool,
     pub value: f32,

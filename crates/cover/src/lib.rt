@@ -1,4 +1,6 @@
 // Whether the samples of a group chunk cover its pairs, each pair once.
+#![tactic(auto)]
+
 ghost use Rattle.std.specs.Prelude.{◌≡◌, ◌*◌, ◌%◌, ◌^◌, ◌≤◌, ◌<◌, true, eqb, get_or};
 ghost use Rattle.num.specs.Choice.{pick, each};
 ghost use Rattle.cover.specs.Cover.{bit, total, packs, covers, group_covers};

@@ -11,7 +11,7 @@ use num::Order;
 use state::State;
 
 // The time and count of samples of a ready chunk, or that the chunk is not ready.
-#[derive(Drop)]
+#[derive(Clone, Copy)]
 pub enum Asked {
     Ready(Data),
     NotReady,

@@ -1,4 +1,6 @@
 // The effect of a chunk on the channel state: what is said of it, what it shows, and what it leaves.
+#![tactic(auto)]
+
 pub mod ask;
 pub mod effects;
 mod ready;
@@ -13,7 +15,7 @@ pub use effects::take;
 use state::State;
 
 // What a well-formed data chunk lacks.
-#[derive(Drop)]
+#[derive(Clone, Copy)]
 pub enum Lack {
     // SIQP, or GIQP for a group: number 21.
     Packing,
@@ -37,7 +39,7 @@ impl Lack {
 }
 
 // What the reader says of a chunk that it accepts.
-#[derive(Drop)]
+#[derive(Clone, Copy)]
 pub enum Verdict {
     // Well-formed, and no data.
     Good,
@@ -72,7 +74,7 @@ impl Verdict {
 
 // What a chunk does: the verdict on it; the state that it shows, which is empty unless it is ready data; and the state
 // after it.
-#[derive(Drop)]
+#[derive(Clone, Copy)]
 pub struct Taken {
     pub verdict: Verdict,
     pub shown: State,

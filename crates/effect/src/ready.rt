@@ -105,7 +105,7 @@ fn in_group(was: Values) -> Values
 }
 
 // What is said of a data chunk, and whether it is a group's.
-#[derive(Drop)]
+#[derive(Clone, Copy)]
 pub struct Judged {
     pub verdict: Verdict,
     pub group: bool,

@@ -1,4 +1,6 @@
 // The check of a file: a header at its start, ended before any data, and whole chunks to the end.
+#![tactic(auto)]
+
 ghost use Rattle.std.specs.Prelude.{◌≡◌, ◌<◌, ◌≤◌, length};
 ghost use Rattle.body.specs.Verdict.{verdict};
 ghost use Rattle.filecheck.specs.File.{file_said, file_number, part_of, is_good, file_ahead, file_of};
@@ -9,7 +11,7 @@ use frame::Ahead;
 use num::Order;
 
 // What the check of a file answers.
-#[derive(Drop)]
+#[derive(Clone, Copy)]
 pub enum FileChecked {
     // A good file, with the number of its items.
     Good(usize),
@@ -39,7 +41,7 @@ impl FileChecked {
 }
 
 // The part that a chunk has in a file. SOFH is a header, EOFH a header's end.
-#[derive(Drop)]
+#[derive(Clone, Copy)]
 enum Part {
     Data,
     Header,
@@ -48,7 +50,7 @@ enum Part {
 }
 
 // What comes of one item: the check goes on at a place, the header ended or not, or it stops with an answer.
-#[derive(Drop)]
+#[derive(Clone, Copy)]
 enum Turn {
     Goes { to: usize, ended: bool },
     Stops(FileChecked),

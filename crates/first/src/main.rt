@@ -1,4 +1,6 @@
 // A first program: the items of the recording on standard input, and the samples of each chunk that is ready.
+#![tactic(auto)]
+
 use frame::OrderFound;
 use num::Order;
 use reader::{Cursor, Item, Stepped};

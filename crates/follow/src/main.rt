@@ -1,5 +1,7 @@
 // Follows the recording on standard input while it grows: a line for each chunk and each skipped stretch once it is
 // there, and at the end of the input one for an end that was not finished.
+#![tactic(auto)]
+
 ghost use Rattle.std.specs.Prelude.{◌≡◌, ◌≤◌, length};
 ghost use Rattle.reader.specs.Item.{item_said};
 ghost use Rattle.growing.specs.Held as Held;

@@ -1,4 +1,6 @@
 // Frames: the sync word, what a stream shows at a place, the search, and finding the byte order.
+#![tactic(auto)]
+
 ghost use Rattle.std.specs.Prelude.{◌≡◌, true, ◌+◌, ◌^◌, ◌≤◌, ◌<◌, eqb, length, drop};
 ghost use Rattle.num.specs.Answer.{refusal};
 ghost use Rattle.num.specs.Choice.{pick};
@@ -26,7 +28,7 @@ pub const FRONT: usize = 20;
 pub const LIMIT: usize = 69632;
 
 // What is wrong with a size that is not good.
-#[derive(Drop)]
+#[derive(Clone, Copy)]
 pub enum BadSize {
     // It is over the limit, a multiple of 4 or not.
     Large,
@@ -35,7 +37,7 @@ pub enum BadSize {
 }
 
 // What stands at a place of a stream. The code is the chunk's type as a number, the size that of its body.
-#[derive(Drop)]
+#[derive(Clone, Copy)]
 pub enum At {
     // No sync word.
     NoSync,
@@ -49,7 +51,7 @@ pub enum At {
 }
 
 // What stands at a place where no chunk begins.
-#[derive(Drop)]
+#[derive(Clone, Copy)]
 pub enum Stray {
     // No sync word.
     NoSync,
@@ -58,7 +60,7 @@ pub enum Stray {
 }
 
 // What is ahead of a place.
-#[derive(Drop)]
+#[derive(Clone, Copy)]
 pub enum Ahead {
     // No byte.
     End,
@@ -71,14 +73,14 @@ pub enum Ahead {
 }
 
 // Where a search stopped, or that it found nothing.
-#[derive(Drop)]
+#[derive(Clone, Copy)]
 pub enum Found {
     Place(usize),
     Nothing,
 }
 
 // The byte order of a stream, or that it has no sync word.
-#[derive(Drop)]
+#[derive(Clone, Copy)]
 pub enum OrderFound {
     Is(Order),
     // Number 1.

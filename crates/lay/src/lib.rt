@@ -1,4 +1,6 @@
 // Bytes laid over a lent slice from a place on. Where they do not fit, nothing is written.
+#![tactic(auto)]
+
 pub mod runs;
 
 ghost use Rattle.std.specs.Prelude.{◌≡◌, ◌+◌, ◌*◌, ◌≤◌, leb, length};

@@ -1,4 +1,6 @@
 // The listing of a stream, whole: its lines laid one after the other into a lent slice.
+#![tactic(auto)]
+
 ghost use Rattle.std.specs.Prelude.{◌≡◌, ◌+◌, ◌^◌, ◌<◌, ◌≤◌, length};
 ghost use Rattle.lay.specs.Splice.{overlaid};
 ghost use Rattle.listing.specs.Lines.{item_lines, listing};
@@ -25,7 +27,7 @@ const ROWS: usize = 2 * (MOST / 13) + 2;
 pub const ROOM: usize = 18 + ROWS * 35 + 10;
 
 // What laying a listing answers.
-#[derive(Drop)]
+#[derive(Clone, Copy)]
 pub enum Listed {
     // The listing has so many bytes, and they are the first of the slice.
     Laid(usize),

@@ -7,7 +7,7 @@ use crate::digits::hex_digit;
 use crate::string::{Text, word};
 
 // What is shown for some bytes of a text, at most four bytes, and how many bytes of the text these are.
-#[derive(Drop)]
+#[derive(Clone, Copy)]
 pub struct Piece {
     pub text: Text,
     pub length: usize,

@@ -1,4 +1,6 @@
 // The listing: its lines, and the words of the dump, as texts of ASCII handed back by value.
+#![tactic(auto)]
+
 mod characters;
 mod chunk;
 mod digits;
@@ -12,7 +14,7 @@ pub use string::{Text, word};
 pub use words::{cause, decimal, hex_word, newline, number, short};
 
 // What a line of the dump is about.
-#[derive(Drop)]
+#[derive(Clone, Copy)]
 pub enum Label {
     // The time of a chunk's first sample.
     Time,

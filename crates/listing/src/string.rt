@@ -4,7 +4,7 @@ ghost use Rattle.listing.specs.Text.{text_of, shown};
 ghost use Rattle.listing.specs.Inner.Text.{push, joins};
 
 // A text by value: the first len of its bytes. The functions of this crate leave 0 in the places behind them.
-#[derive(Drop)]
+#[derive(Clone, Copy)]
 pub struct Text {
     pub bytes: [u8; 96],
     pub len: usize,

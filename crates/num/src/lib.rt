@@ -1,11 +1,13 @@
 // Numbers of 2, 4 and 8 bytes, unsigned and signed, out of bytes and into bytes, in either byte order.
+#![tactic(auto)]
+
 ghost use Rattle.std.specs.Prelude.{◌≡◌, [], ◌∷◌, reverse};
 ghost use Rattle.std.specs.Int.{w16, w32, w64};
 ghost use Rattle.std.proofs.Common.{to_z, of_z};
 ghost use Rattle.num.specs.Number.{number, digits, unsigned, unsigned_at, signed, bytes_of};
 
 // The byte order of a stream: most significant byte first, or last.
-#[derive(Drop)]
+#[derive(Clone, Copy)]
 pub enum Order {
     Big,
     Little,

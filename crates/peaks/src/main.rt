@@ -1,5 +1,7 @@
 // For each ready chunk of the recording on standard input: its time, its centre frequency if that is known, and for
 // each channel its largest sample.
+#![tactic(auto)]
+
 use body::Data;
 use effect::Verdict;
 use frame::OrderFound;

@@ -1,4 +1,6 @@
 // Lists the PXGF stream on standard input.
+#![tactic(auto)]
+
 ghost use Rattle.std.specs.Prelude.{◌≡◌, length};
 ghost use Rattle.lister.specs.Listed.{longest};
 

@@ -1,4 +1,6 @@
 // The reader: a cursor that goes through a lent stream, one item at a step.
+#![tactic(auto)]
+
 pub mod part;
 
 ghost use Rattle.std.specs.Prelude.{true, ◌≡◌, ◌+◌, ◌-◌, ◌^◌, ◌<◌, ◌≤◌, length, take, drop};
@@ -23,7 +25,7 @@ pub use part::body_of;
 use state::{State, Values};
 
 // Where a reader stands: its place in the stream, whether it is in step or searching, and the channel state.
-#[derive(Drop)]
+#[derive(Clone, Copy)]
 pub struct Cursor {
     pub place: usize,
     pub in_step: bool,
@@ -31,7 +33,7 @@ pub struct Cursor {
 }
 
 // Why bytes were skipped: how the reader came to the place where they begin, and what stands there.
-#[derive(Drop)]
+#[derive(Clone, Copy)]
 pub enum Cause {
     // It came searching, as at the start.
     Searching,
@@ -44,7 +46,7 @@ pub enum Cause {
 }
 
 // What a step gives.
-#[derive(Drop)]
+#[derive(Clone, Copy)]
 pub enum Item {
     // Refused: the cursor's place is past the end. Number 2.
     PastEnd,
@@ -102,7 +104,7 @@ impl Item {
 
 // What a step gives: the item; the state that a ready chunk shows, which is empty for every other item; and the cursor
 // for the next step.
-#[derive(Drop)]
+#[derive(Clone, Copy)]
 pub struct Stepped {
     pub item: Item,
     pub shown: State,

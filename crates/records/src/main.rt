@@ -1,4 +1,6 @@
 // Records written one after the other into a slice, and read back from it.
+#![tactic(auto)]
+
 use num::Order;
 use show::print;
 use writer::Written;

@@ -1,5 +1,7 @@
 // Samples: the numbers of one channel, copied out of a ready data chunk: the one at a cursor, or the one that a step
 // gave. Here stands where they lie.
+#![tactic(auto)]
+
 mod answer;
 mod given;
 pub mod patterns;
@@ -26,7 +28,7 @@ use state::{State, Values};
 
 // Where a channel's numbers lie among those of a chunk: pairs, by the first of them, the step from one to the next and
 // how many; or reals, from the first on.
-#[derive(Drop)]
+#[derive(Clone, Copy)]
 pub struct Layout {
     pub pairs: bool,
     pub iq: bool,
@@ -36,7 +38,7 @@ pub struct Layout {
 }
 
 // That layout, or why there is none.
-#[derive(Drop)]
+#[derive(Clone, Copy)]
 pub enum LayoutFound {
     At(Layout),
     NoChannel,
@@ -45,14 +47,14 @@ pub enum LayoutFound {
 
 // What is to be copied: where the channel's numbers lie in a part of the stream, and the places between which that part
 // lies; or why nothing is.
-#[derive(Drop)]
+#[derive(Clone, Copy)]
 pub enum Planned {
     Go(Layout, usize, usize),
     Refused(Copied),
 }
 
 // How many numbers were copied, or why none were.
-#[derive(Drop)]
+#[derive(Clone, Copy)]
 pub enum Copied {
     Count(usize),
     // The cursor's place is past the end: number 2.

@@ -1,4 +1,6 @@
 // The dump of a stream, written to standard output: each line, or word of a line, as the crate listing makes it.
+#![tactic(auto)]
+
 mod channels;
 mod chunk;
 mod line;

@@ -3,7 +3,7 @@ use listing::words::label;
 use listing::{Label, Text, newline};
 
 // The first len bytes are gathered. A long line is written in parts.
-#[derive(Drop)]
+#[derive(Clone, Copy)]
 pub(crate) struct Line {
     bytes: [u8; 1024],
     len: usize,

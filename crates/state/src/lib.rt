@@ -1,4 +1,6 @@
 // The channel state: the values that chunks have set, by value.
+#![tactic(auto)]
+
 ghost use Rattle.std.specs.Prelude.{◌≡◌};
 ghost use Rattle.body.specs.Table.{total_gain, gains, none};
 ghost use Rattle.state.specs.State.{built, set_in, emptied, with_values, with_mark};
@@ -13,7 +15,7 @@ pub use sums::{GainSums, no_sums};
 
 // The values that chunks have set since the step was last regained, each absent or present, and the sums that follow
 // from two of them.
-#[derive(Drop)]
+#[derive(Clone, Copy)]
 pub struct Values {
     // SIQP: 1 for I before Q
     pub packing: Held,
@@ -42,7 +44,7 @@ pub struct Values {
 }
 
 // The channel state: the values, and the start mark.
-#[derive(Drop)]
+#[derive(Clone, Copy)]
 pub struct State {
     pub values: Values,
     // the next samples do not follow on from those before

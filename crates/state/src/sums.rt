@@ -10,7 +10,7 @@ use body::{GroupGains, LevelHeld};
 
 // For each of 16 channels the sum of dBTG and the channel's gain, in dB: one addition, rounded once. It is present where
 // both parts are and the sum is finite; an absent one is 0.
-#[derive(Drop)]
+#[derive(Clone, Copy)]
 pub struct GainSums {
     pub present: [bool; 16],
     pub values: [f32; 16],

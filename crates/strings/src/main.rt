@@ -1,5 +1,7 @@
 // Judges each string on standard input: 1 where it is UTF-8, else 0, and a newline at the end. The input has the number
 // of strings, then for each its length and its bytes; both numbers take four bytes, the lowest first.
+#![tactic(auto)]
+
 use libc::STDOUT_FILENO;
 use num::Order;
 

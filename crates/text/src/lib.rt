@@ -1,4 +1,6 @@
 // UTF-8: whether bytes are a run of the characters of RFC 3629.
+#![tactic(auto)]
+
 ghost use Rattle.std.specs.Prelude.{◌≡◌, true, false, [], ◌∷◌, ℕ, ◌+◌, ◌<◌, ◌≤◌, length, get_or, drop};
 ghost use Rattle.num.specs.Choice.{pick};
 ghost use Rattle.text.specs.Utf8.{between, utf8_tail, within, fits, character, is_utf8};

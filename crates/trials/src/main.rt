@@ -1,6 +1,8 @@
 // Runs each stream of the file `streams`: its dump, the file check in both orders, its items counted and the rows for
 // them, digests of what copying and writing answer and leave, and of what cursors made at will are answered. The file
 // has the number of streams, then for each its length and its bytes; both numbers take four bytes, the lowest first.
+#![tactic(auto)]
+
 mod answer;
 mod check;
 mod copies;

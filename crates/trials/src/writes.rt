@@ -6,7 +6,7 @@ use reader::{Cursor, Item};
 use writer::Written;
 
 // Where the next record goes, and the digest so far.
-#[derive(Drop)]
+#[derive(Clone, Copy)]
 pub(crate) struct Run {
     pub(crate) place: usize,
     pub(crate) digest: u64,

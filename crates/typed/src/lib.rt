@@ -1,4 +1,6 @@
 // A record of a kind, written from its values: the raw call on the bytes that they make.
+#![tactic(auto)]
+
 pub mod band;
 pub mod empty;
 pub mod group;

@@ -1,4 +1,6 @@
 // The writer: a record, its type and its body, laid as a chunk at a place of a lent slice.
+#![tactic(auto)]
+
 mod data;
 pub mod patterns;
 pub mod shorts;
@@ -17,7 +19,7 @@ pub use patterns::{gfnc, sfnc, sfnr};
 pub use shorts::{gsnc, ssnc, ssnr};
 
 // What writing a record answers: the place past its chunk, or why nothing was written.
-#[derive(Drop)]
+#[derive(Clone, Copy)]
 pub enum Written {
     Next(usize),
     // The place is past the end of the slice: number 2.
