@@ -1,4 +1,4 @@
-// The library's work behind plain numbers and slices, for a program that measures it.
+// The library's work behind plain numbers and slices, for a program that measures it. The crate bench_c exports it.
 #![tactic(auto)]
 
 ghost use Rattle.std.specs.Prelude.{◌≡◌, true, false, ◌≤◌, length};
@@ -33,8 +33,7 @@ fn order_by(number: u32) -> Order
 }
 
 // How many items a stream has.
-#[unsafe(no_mangle)]
-pub extern "C" fn bench_count(order: u32, s: &[u8]) -> usize
+pub fn bench_count(order: u32, s: &[u8]) -> usize
     ensures { result ≡ length (items (order_by order) s.now) }
 {
     reader::count(order_by(order), s)
@@ -79,8 +78,8 @@ struct Walked {
 
 // So many steps from a new cursor, or fewer where the stream ends before.
 fn walk(order: Order, s: &[u8], steps: usize) -> Walked
-    ensures cursor_value { result.cursor ≡ after steps order s.now new_cursor }
-    ensures sound_value { length s.now ≤ steps → result.sound ≡ sound_count (items order s.now) }
+    ensures reached { result.cursor ≡ after steps order s.now new_cursor }
+    ensures counted { length s.now ≤ steps → result.sound ≡ sound_count (items order s.now) }
 {
     let mut cursor = Cursor::new();
     let mut n = 0;
@@ -97,8 +96,7 @@ fn walk(order: Order, s: &[u8], steps: usize) -> Walked
 }
 
 // How many items of a stream are sound, found by a step for each item.
-#[unsafe(no_mangle)]
-pub extern "C" fn bench_step(order: u32, s: &[u8]) -> usize
+pub fn bench_step(order: u32, s: &[u8]) -> usize
     ensures { result ≡ sound_count (items (order_by order) s.now) }
 {
     let walked = walk(order_by(order), s, s.len());
@@ -106,8 +104,7 @@ pub extern "C" fn bench_step(order: u32, s: &[u8]) -> usize
 }
 
 // Where a search stops, the end where it does not.
-#[unsafe(no_mangle)]
-pub extern "C" fn bench_search(order: u32, s: &[u8], from: usize) -> usize
+pub fn bench_search(order: u32, s: &[u8], from: usize) -> usize
     ensures { result ≡ place_or (length s.now) (search_from (order_by order) s.now from) }
 {
     match frame::search(order_by(order), s, from) {
@@ -117,8 +114,7 @@ pub extern "C" fn bench_search(order: u32, s: &[u8], from: usize) -> usize
 }
 
 // What is wrong with the body of a TEXT chunk, by its number; 0 where nothing is.
-#[unsafe(no_mangle)]
-pub extern "C" fn bench_text(order: u32, body: &[u8]) -> u32
+pub fn bench_text(order: u32, body: &[u8]) -> u32
     ensures { result ≡ refusal (text (order_by order) body.now) }
 {
     match body::text(order_by(order), body) {
@@ -128,34 +124,20 @@ pub extern "C" fn bench_text(order: u32, body: &[u8]) -> u32
 }
 
 // A record written at a place of out: the place past it, 0 where nothing is written.
-#[unsafe(no_mangle)]
-pub extern "C" fn bench_write(
-    order: u32,
-    code: u32,
-    body: &[u8],
-    out: &mut [u8],
-    place: usize,
-) -> usize
-    ensures value { result ≡ or_zero (write_of (order_by order) code body.now (length out.old) place) }
-    ensures out_after { out.new ≡ written_out (order_by order) code body.now out.old place }
+pub fn bench_write(order: u32, code: u32, body: &[u8], out: &mut [u8], place: usize) -> usize
+    ensures said { result ≡ or_zero (write_of (order_by order) code body.now (length out.old) place) }
+    ensures left { out.new ≡ written_out (order_by order) code body.now out.old place }
 {
     let written = writer::write(order_by(order), code, body, out, place);
     written.place(0)
 }
 
 // The 16-bit numbers of a channel, out of the chunk that so many steps lead to: how many were copied.
-#[unsafe(no_mangle)]
-pub extern "C" fn bench_shorts(
-    order: u32,
-    s: &[u8],
-    steps: usize,
-    channel: usize,
-    out: &mut [i16],
-) -> usize
-    ensures value { result
+pub fn bench_shorts(order: u32, s: &[u8], steps: usize, channel: usize, out: &mut [i16]) -> usize
+    ensures said { result
         ≡ or_zero (count_of false (order_by order) s.now
         (after steps (order_by order) s.now new_cursor) channel (length out.old)) }
-    ensures out_after { out.new
+    ensures left { out.new
         ≡ filled (count_of false (order_by order) s.now
         (after steps (order_by order) s.now new_cursor) channel (length out.old))
         (layout_at false (order_by order) s.now
@@ -170,18 +152,11 @@ pub extern "C" fn bench_shorts(
 }
 
 // The same of 32-bit patterns.
-#[unsafe(no_mangle)]
-pub extern "C" fn bench_patterns(
-    order: u32,
-    s: &[u8],
-    steps: usize,
-    channel: usize,
-    out: &mut [u32],
-) -> usize
-    ensures value { result
+pub fn bench_patterns(order: u32, s: &[u8], steps: usize, channel: usize, out: &mut [u32]) -> usize
+    ensures said { result
         ≡ or_zero (count_of true (order_by order) s.now
         (after steps (order_by order) s.now new_cursor) channel (length out.old)) }
-    ensures out_after { out.new
+    ensures left { out.new
         ≡ filled (count_of true (order_by order) s.now
         (after steps (order_by order) s.now new_cursor) channel (length out.old))
         (layout_at true (order_by order) s.now
