@@ -26,7 +26,7 @@ top-or false c s y h = h
 
 fields-finite : (s : Bool) (x t : ℕ) → is_finite (of_fields binary32 s x t) ≡ not (eqb x 255)
 unfolding of_fields
-fields-finite s zero t = odd-finite _ s t _ _
+fields-finite s zero t = odd-finite 24 s t 0 149
 fields-finite s (suc x) t = top-or (eqb (suc x) 255) (eqb t 0) s (odd 24 s (8388608 + t) x 149) (odd-finite 24 s (8388608 + t) x 149)
 
 field-top : (m : ℕ) (b : Bool) → m < 2147483648 → ltb m 2139095040 ≡ b → not (eqb (m / 8388608) 255) ≡ b

@@ -80,6 +80,7 @@ pub const TEXT: u32 = 0x54455854;
 
 // The kind of a type; Unknown where no kind has it. Nearly every chunk is data, so the six data codes are compared
 // first: those of groups are below SFNC, those of single channels are not.
+#[tactic(auto, unfolding(crate::specs::Kind::kind_of, crate::specs::Kind::kind_in, crate::specs::Kind::known))]
 pub fn kind_of(code: u32) -> Kind
     ensures { result ≡ kind_of code }
 {
@@ -103,6 +104,7 @@ pub fn kind_of(code: u32) -> Kind
 // The kind of a type, by the whole table. The data types stand here too, though `kind_of` has passed them: with all 22
 // types, and called from two places, this function is too long to be inlined. A compiler that inlined it would make one
 // search tree of these comparisons and of those with the data codes.
+#[tactic(auto, unfolding(crate::specs::Kind::kind_of, crate::specs::Kind::kind_in, crate::specs::Kind::known))]
 fn any_kind_of(code: u32) -> Kind
     ensures { result ≡ kind_of code }
 {

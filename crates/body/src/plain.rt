@@ -38,6 +38,7 @@ fn zeros(s: &[u8]) -> bool
 }
 
 // A body with n bytes of text in it.
+#[tactic(auto, unfolding(crate::specs::Plain::texts))]
 fn texts(body: &[u8], n: usize) -> TextRead
     requires { n ≤ 2147483647 }
     ensures { text_said result ≡ texts body.now n }

@@ -100,6 +100,7 @@ pub fn gfnc(order: Order, body: &[u8]) -> DataRead
 }
 
 // What the samples of a kind are; NoSamples for a kind that is no data.
+#[tactic(auto, unfolding(crate::specs::Table::shaped))]
 pub fn shape_of(kind: Kind) -> Shaped
     ensures { result ≡ shaped kind }
 {

@@ -63,6 +63,7 @@ fn of_text(read: TextRead) -> Checked
 
 // Whether a body of a kind is well-formed, or with which of 11 to 15 it is refused. A body of an unknown kind always
 // is.
+#[tactic(auto, unfolding(crate::specs::Verdict::verdict))]
 pub fn check(order: Order, kind: Kind, body: &[u8]) -> Checked
     ensures { checked_said result tt ≡ verdict order kind body.now }
 {

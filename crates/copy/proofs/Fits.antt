@@ -70,6 +70,12 @@ module _ (w size first step pairs room : ℕ) (fits : pairs_fit w size first ste
   pub pairs-room : 2 * pairs ≤ room
   pairs-room = leb-true _ _ (both-right (each (λ j. inside w size (place_of first step j)) pairs) (leb (2 * pairs) room) fits)
 
+-- pairs that stand one after the other end within the bytes
+pub run-inside : (w size first pairs room : ℕ) → 0 < pairs → pairs_fit w size first 1 pairs room ≡ true → (first + pairs) * (2 * w) ≤ size
+run-inside w size first pairs room l fits =
+    let e : first + (pairs - 1) * 1 + 1 ≡ first + pairs = omega arith in
+    rw e at (pair-inside w size first 1 pairs room fits (pairs - 1) (omega arith))
+
 -- when numbers fit
 pub reals-outside : (w size count room : ℕ) → size < count * w → reals_fit w size count room ≡ false
 reals-outside w size count room h = rw (lt-leb (count * w) size h)

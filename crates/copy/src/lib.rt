@@ -370,8 +370,8 @@ pub fn short_pairs(
     pairs: usize,
     out: &mut [i16],
 ) -> bool
-    ensures value { result ≡ pairs_fit 2 (length src.now) first step pairs (length out.old) }
-    ensures out_after { out.new
+    ensures said { result ≡ pairs_fit 2 (length src.now) first step pairs (length out.old) }
+    ensures left { out.new
         ≡ pick result (front_filled (pairs_of (short_at order src.now) iq first step pairs) out.old)
         out.old }
 {
@@ -398,8 +398,8 @@ pub fn pattern_pairs(
     pairs: usize,
     out: &mut [u32],
 ) -> bool
-    ensures value { result ≡ pairs_fit 4 (length src.now) first step pairs (length out.old) }
-    ensures out_after { out.new
+    ensures said { result ≡ pairs_fit 4 (length src.now) first step pairs (length out.old) }
+    ensures left { out.new
         ≡ pick result (front_filled (pairs_of (pattern_at order src.now) iq first step pairs) out.old)
         out.old }
 {
@@ -429,8 +429,8 @@ pub fn pattern_pairs(
 // Copies the first `count` 16-bit numbers of src to the front of out, and answers true. Where src or out is too short
 // the answer is false, and out is as it was. The place of src in its stream, `at`, has a say in the speed alone.
 pub fn short_reals(order: Order, at: usize, src: &[u8], count: usize, out: &mut [i16]) -> bool
-    ensures value { result ≡ reals_fit 2 (length src.now) count (length out.old) }
-    ensures out_after { out.new
+    ensures said { result ≡ reals_fit 2 (length src.now) count (length out.old) }
+    ensures left { out.new
         ≡ pick result (front_filled (reals_of (short_at order src.now) count) out.old)
         out.old }
 {
@@ -450,8 +450,8 @@ pub fn short_reals(order: Order, at: usize, src: &[u8], count: usize, out: &mut 
 
 // The same of 32-bit patterns.
 pub fn pattern_reals(order: Order, at: usize, src: &[u8], count: usize, out: &mut [u32]) -> bool
-    ensures value { result ≡ reals_fit 4 (length src.now) count (length out.old) }
-    ensures out_after { out.new
+    ensures said { result ≡ reals_fit 4 (length src.now) count (length out.old) }
+    ensures left { out.new
         ≡ pick result (front_filled (reals_of (pattern_at order src.now) count) out.old)
         out.old }
 {

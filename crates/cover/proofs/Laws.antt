@@ -360,3 +360,7 @@ group-packed P n inc l h = rw h
 pub group-other : (P n inc : ℕ) (l : List ℕ) → packs n inc ≡ false → group_covers P n inc l ≡ false
 unfolding group_covers
 group-other P n inc l h = rw h
+
+-- Each return of `covers` is a case of the rule: a packing that is not allowed, pairs that n does not divide, no pairs,
+-- and the rest.
+pub ruleset group_cases = (group-packed, group-other, indivisible, nothing)

@@ -92,6 +92,7 @@ fn fills(pairs: usize, n: usize, increment: usize, offsets: [u32; 16]) -> bool
 
 // Whether a group's packing is allowed (1 to 16 channels, increment 1 or n) and covers its pairs: as many samples for
 // each channel, each pair that of exactly one of them. No pairs are covered by any packing that is allowed.
+#[tactic(auto, using(crate::proofs::Laws::group_cases))]
 pub fn covers(pairs: usize, n: usize, increment: usize, offsets: [u32; 16]) -> bool
     ensures { result ≡ group_covers pairs n increment offsets }
 {

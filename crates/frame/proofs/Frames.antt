@@ -17,7 +17,6 @@ use Rattle.frame.specs.declared.At.{At}
 use Rattle.frame.specs.declared.At.TheVariants.{NoSync, Bad, Unfinished, Complete}
 use Rattle.frame.specs.Place.{sync_bytes, starts, word, type_in, size_in, good_size, shows, stops, gap}
 use Rattle.frame.specs.declared.Stray.{Stray}
-use Rattle.frame.specs.declared.Stray.TheVariants as Stray
 use Rattle.frame.specs.declared.Ahead.{Ahead}
 use Rattle.frame.specs.declared.Ahead.TheVariants.{End, Stretch, Cut, Chunk}
 use Rattle.frame.specs.Ahead.{ahead_by, ahead_of}

@@ -8,9 +8,8 @@ use native.Mathlib.Omega.{arith}
 use lib.ListN.{length, get_or, drop, take, take-append-drop, drop_of_length-le}
 use lib.Seq.{drop-cons, drop-drop, get_or-drop, length-take-le, take-append_seam}
 use lib.Dec.{eqb, leb, ltb}
-use borrow.Author.Tests.{eq-eqb, eqb-true, lt-ltb, le-ltb, ltb-true, ltb-false, leb-true, leb-false}
+use borrow.Author.Tests.{eq-eqb, ne_eqb, eqb-true, lt-ltb, le-ltb, ltb-true, ltb-false, leb-true, leb-false}
 use mathlib.Core.Logic.{◌⊎◌, inl, inr}
-use denote.Enum.Declared.{tag_of}
 use Rattle.num.specs.Answer.{gives, refuses}
 use Rattle.num.specs.Choice.{pick, both}
 use Rattle.num.specs.Number.{unsigned, unsigned_at, bytes_of}
@@ -22,7 +21,7 @@ use Rattle.frame.specs.declared.At.{At}
 use Rattle.frame.specs.declared.At.TheVariants.{NoSync, Bad, Unfinished, Complete}
 use Rattle.frame.specs.declared.Found.{Found}
 use Rattle.frame.specs.declared.Found.TheVariants.{Place, Nothing}
-use Rattle.frame.specs.contracts.At.{the_type}
+use Rattle.frame.specs.declared.BadSize.{BadSize}
 use Rattle.frame.specs.Place.{sync_bytes, starts, begun, word, type_in, size_in, good_size, bad_size, shows, stops, gap, search_from, order_of}
 
 -- ---- the front of a list
@@ -65,6 +64,17 @@ pub starts-step : (w s : List ℕ) (j k : ℕ) → j < length w → k < length s
     starts (drop j w) (drop k s) ≡ both (eqb (get_or s k 0) (get_or w j 0)) (starts (drop (j + 1) w) (drop (k + 1) s))
 unfolding starts
 starts-step w s j k hw hs = rw (drop-cons w j 0 hw, drop-cons s k 0 hs, add-one j, add-one k)
+
+-- where it has come as far as k: the bytes there decide, or it goes on behind them
+pub starts-differ : (w s : List ℕ) (p k : ℕ) → k < length w → p + k < length s → starts w (drop p s) ≡ starts (drop k w) (drop (p + k) s) →
+    (get_or s (p + k) 0 ≡ get_or w k 0 → ⊥) → starts w (drop p s) ≡ false
+starts-differ w s p k hw hs e d = e ∙ starts-step w s k (p + k) hw hs ∙ rw (ne_eqb _ _ d)
+
+pub starts-agree : (w s : List ℕ) (p k : ℕ) → k < length w → p + k < length s → starts w (drop p s) ≡ starts (drop k w) (drop (p + k) s) →
+    get_or s (p + k) 0 ≡ get_or w k 0 → starts w (drop p s) ≡ starts (drop (k + 1) w) (drop (p + (k + 1)) s)
+starts-agree w s p k hw hs e d =
+    let n : p + (k + 1) ≡ p + k + 1 = omega arith in
+    e ∙ starts-step w s k (p + k) hw hs ∙ rw (n, eq-eqb _ _ d)
 
 -- and a comparison that is through
 pub starts-done : (w l : List ℕ) (k : ℕ) → length w ≤ k → starts (drop k w) l ≡ true
@@ -225,22 +235,14 @@ nothing-by a n false t e = ltb-false a n t
 pub search-end : (o : Order) (s : List ℕ) (from : ℕ) → search_from o s from ≡ Nothing → length s ≤ from + gap o (drop from s)
 search-end o s from e = let a = from + gap o (drop from s) in nothing-by a (length s) (ltb a (length s)) refl e
 
--- the arms of a `match` that bind nothing say only the variant's number
-pub stop-told : (a : At) → (tag_of the_type a ≡ 3) ⊎ (tag_of the_type a ≡ 2) → stops a ≡ true
-stop-told NoSync (inl e) = absurd (omega arith)
-stop-told NoSync (inr e) = absurd (omega arith)
-stop-told (Bad size) (inl e) = absurd (omega arith)
-stop-told (Bad size) (inr e) = absurd (omega arith)
-stop-told Unfinished e = refl
-stop-told (Complete code size) e = refl
+-- an arm of a `match` on what stands at a place: it stops a search, or the search goes on
+pub stop-told : (a : At) → ((code : ℕ) × (size : ℕ) × (a ≡ Complete code size)) ⊎ (a ≡ Unfinished) → stops a ≡ true
+stop-told a (inl w) = ap stops w.2
+stop-told a (inr e) = ap stops e
 
-pub pass-told : (a : At) → (tag_of the_type a ≡ 0) ⊎ (tag_of the_type a ≡ 1) → stops a ≡ false
-pass-told NoSync e = refl
-pass-told (Bad size) e = refl
-pass-told Unfinished (inl e) = absurd (omega arith)
-pass-told Unfinished (inr e) = absurd (omega arith)
-pass-told (Complete code size) (inl e) = absurd (omega arith)
-pass-told (Complete code size) (inr e) = absurd (omega arith)
+pub pass-told : (a : At) → (a ≡ NoSync) ⊎ ((size : BadSize) × (a ≡ Bad size)) → stops a ≡ false
+pass-told a (inl e) = ap stops e
+pass-told a (inr w) = ap stops w.1
 
 -- ---- the order, one place at a time
 

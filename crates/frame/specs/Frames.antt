@@ -5,7 +5,6 @@ use Rattle.num.specs.declared.Order.{Order}
 use Rattle.frame.specs.declared.At.{At}
 use Rattle.frame.specs.declared.At.TheVariants.{NoSync, Bad, Unfinished, Complete}
 use Rattle.frame.specs.declared.Stray.{Stray}
-use Rattle.frame.specs.declared.Stray.TheVariants as Stray
 use Rattle.frame.specs.Place.{header_size, sync_bytes, shows, gap}
 
 pub data Frame : Type 0 where

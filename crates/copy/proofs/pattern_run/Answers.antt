@@ -1,0 +1,26 @@
+-- Each pair of the first so many lies inside the bytes, and the slice has room for it.
+use Rattle.std.proofs.Common.{◌+◌, length, arith}
+use Rattle.copy.specs.Samples.{pattern_at}
+use Rattle.copy.proofs.Fits.{pair-inside, pairs-room}
+use Rattle.copy.proofs.Turns.{grown-pair, grown-all}
+use Rattle.copy.proofs.pattern_run.Goals as goal
+
+pub overflow_add-first : goal.overflow_add-first
+overflow_add-first c =
+    let a = c.args in
+    omega (arith, pair-inside 4 (length a.src.now) a.first 1 a.pairs (length a.out.now) c.requires c.loop-j.j c.loop-j-test.true)
+
+pub pattern_pair-requires : goal.pattern_pair-requires
+pattern_pair-requires c =
+    let a = c.args in
+    (omega (arith, pair-inside 4 (length a.src.now) a.first 1 a.pairs (length a.out.now) c.requires c.loop-j.j c.loop-j-test.true), omega (arith, pairs-room 4 (length a.src.now) a.first 1 a.pairs (length a.out.now) c.requires))
+
+pub loop-j-preserved : goal.loop-j-preserved
+loop-j-preserved c =
+    let a = c.args in
+    grown-pair (pattern_at a.order a.src.now) a.iq a.first 1 a.pairs _ _ c.loop-j.out c.loop-j.j c.loop-j.invariant (a.first + c.loop-j.j) _ (omega arith) (omega arith) c.pattern_pair.ensures
+
+pub returns : goal.returns
+returns c =
+    let a = c.args in
+    grown-all (pattern_at a.order a.src.now) a.iq a.first 1 a.pairs a.out.now c.loop-j.out c.loop-j.j c.loop-j.invariant (omega arith) (pairs-room 4 (length a.src.now) a.first 1 a.pairs (length a.out.now) c.requires)

@@ -1,0 +1,10 @@
+-- What is ahead of `at` is UTF-8 where what is ahead of i is: after the groups each turn passes over a plain byte.
+use Rattle.std.proofs.Common.{◌≡◌, ◌-◌, ◌≤◌, drop}
+use Rattle.text.specs.Utf8.{is_utf8}
+use Rattle.text.proofs.plains.Given as goal
+
+abbrev pub invariant-loop-at : goal.invariant-loop-at
+invariant-loop-at l = record { from : l.i ≤ l.at; within : l.at ≤ l.end; same : is_utf8 (drop l.i l.s) ≡ is_utf8 (drop l.at l.s) }
+
+abbrev pub decreases-loop-at : goal.decreases-loop-at
+decreases-loop-at l = l.end - l.at
