@@ -16,7 +16,7 @@ use Rattle.copy.specs.Samples.{inside, place_of}
 use Rattle.cover.proofs.Theorems.{group-says}
 use Rattle.state.specs.declared.State.{State}
 use Rattle.samples.specs.Inner.Plan.{number_bytes, lies}
-use Rattle.samples.specs.Layout.{alone, paired, real, member, one-of, layout}
+use Rattle.samples.specs.Layout.{alone, paired, real, member, one_of, layout}
 use Rattle.samples.specs.declared.Layout.{Layout}
 use Rattle.body.specs.declared.sampled.Shape.TheVariants.{ShortPairs, ShortReals, ShortGroup, FloatPairs, FloatReals, FloatGroup}
 use Rattle.body.specs.declared.sampled.Shaped.{Shaped}
@@ -43,7 +43,7 @@ module _ (channel : ℕ) (body : List ℕ) (s : State) (d : Data) (l : Layout) w
       let h = alone-gives channel (eqb channel 0) (real d) l e in
       rw (← h.1) (le-leb (d.samples * w) (length body - 8) (omega arith))
 
-  group-lies : (w : ℕ) → length body ≡ 8 + d.samples * (2 * w) → Covered (Samples ShortGroup) d s.values.group → one-of channel s d ≡ gives l → lies w (length body - 8) l ≡ true
+  group-lies : (w : ℕ) → length body ≡ 8 + d.samples * (2 * w) → Covered (Samples ShortGroup) d s.values.group → one_of channel s d ≡ gives l → lies w (length body - 8) l ≡ true
   group-lies w n k e =
       let h = alone-gives channel (ltb channel s.values.group.n) (member channel s d) l e in
       let g = group-says d.samples s.values.group.n s.values.group.increment s.values.group.offsets k in

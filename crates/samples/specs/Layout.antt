@@ -48,16 +48,16 @@ member channel s d = record {
   count = d.samples / s.values.group.n;
 }
 
-abbrev pub one-of : ℕ → State → Data → Answer Layout
-one-of channel s d = pick (ltb channel s.values.group.n) (gives (member channel s d)) (refuses 34)
+abbrev pub one_of : ℕ → State → Data → Answer Layout
+one_of channel s d = pick (ltb channel s.values.group.n) (gives (member channel s d)) (refuses 34)
 
 abbrev pub arranged : Shape → ℕ → State → Data → Answer Layout
 arranged ShortPairs channel s d = alone channel (paired s d)
 arranged ShortReals channel s d = alone channel (real d)
-arranged ShortGroup channel s d = one-of channel s d
+arranged ShortGroup channel s d = one_of channel s d
 arranged FloatPairs channel s d = alone channel (paired s d)
 arranged FloatReals channel s d = alone channel (real d)
-arranged FloatGroup channel s d = one-of channel s d
+arranged FloatGroup channel s d = one_of channel s d
 
 -- number 35 unless the chunk is data of the width; then number 34 unless it has the channel
 abbrev pub layout : Bool → Shaped → ℕ → State → Data → Answer Layout

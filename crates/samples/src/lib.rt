@@ -8,7 +8,7 @@ pub mod patterns;
 pub mod shorts;
 
 ghost use Rattle.std.specs.Prelude.{◌≡◌, ◌+◌, ◌^◌, ◌≤◌, ◌<◌, length, take, drop, get_or};
-ghost use Rattle.samples.specs.Layout.{has_width, alone, paired, real, one-of, arranged, layout};
+ghost use Rattle.samples.specs.Layout.{has_width, alone, paired, real, one_of, arranged, layout};
 ghost use Rattle.frame.specs.Place.{header_size};
 ghost use Rattle.body.specs.Table.{shaped};
 ghost use Rattle.effect.specs.Effect.{effect};
