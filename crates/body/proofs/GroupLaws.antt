@@ -73,6 +73,9 @@ module _ {A : Type 0} (head value : ℕ) (o : Order) (body : List ℕ) (f : ℕ 
       let z = int32 o body 0 in
       then-by (ltb (length body) head) (both (le_z (pos 1) z) (le_z z (pos 16))) (eqb (length body) (head + value * nat_abs z)) (nat_abs z)
 
+-- what a count says, by the pattern of the number at the front
+pub ruleset counted = (listed-short, listed-none, listed-many, listed-size, listed-whole)
+
 -- ---- a value beside its verdict
 
 pub read-good : {A : Type 0} (v none : A) (rule : Answer A) → rule ≡ gives v → Read Good v none rule

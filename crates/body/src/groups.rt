@@ -101,6 +101,7 @@ pub fn no_gains() -> GroupGains
 }
 
 // How many channels a body has, where head bytes stand before the values and a value takes so many.
+#[tactic(auto, using(crate::proofs::GroupLaws::counted))]
 fn count(order: Order, body: &[u8], head: usize, value: usize) -> ChannelsRead
     requires { (4 ≤ head) × (head ≤ packing_head) × (value ≤ 8) }
     ensures { (channels_said result ≡ listed head value order body.now gives) × InCount result }
