@@ -100,8 +100,8 @@ left-by {x = x} {hold = hold} k e b c r h = record {
   kind = k;
   body = b;
   bytes = c;
-  sets-it = rw e (eq-eqb (slot_number x) (slot_number x) refl);
-  well-formed = rw e (ap seen r);
+  sets_it = rw e (eq-eqb (slot_number x) (slot_number x) refl);
+  well_formed = rw e (ap seen r);
   left = λ s. rw e (put-is x _ s.values ∙ ap (or_else (none x) hold) r ∙ h);
 }
 
@@ -262,7 +262,7 @@ module _ (o : Order) (b : List ℕ) (s : State) (x : Slot) where
 pub left-allowed : (o : Order) (x : Slot) (v : Value x) → Left o x v → (is_present x v ≡ true) × (good_in x v ≡ true)
 left-allowed o x v l =
     let s = emptied false in
-    subst (Ok x) (l.left s) (kind-ok o l.body s x l.kind l.sets_it l.well-formed)
+    subst (Ok x) (l.left s) (kind-ok o l.body s x l.kind l.sets_it l.well_formed)
 
 -- So the present values that number 3 allows in a slot are just those that the body table allows.
 pub allowed-both-ways : (o : Order) (x : Slot) (v : Value x) → Fitting x v →

@@ -47,6 +47,6 @@ pub record Left (o : Order) (x : Slot) (v : Value x) : Type 0 where
   pub kind : Kind
   pub body : List ℕ
   pub bytes : Bytes body
-  pub sets-it : set_by kind x ≡ true
-  pub well-formed : verdict o kind body ≡ gives tt
+  pub sets_it : set_by kind x ≡ true
+  pub well_formed : verdict o kind body ≡ gives tt
   pub left : (s : State) → value_in x (effect o kind body s).after.values ≡ v

@@ -7,6 +7,7 @@ use lib.IntN.{ℤ}
 use lib.ListN.{length, take, drop}
 use contract.Lifetimes.{Lfts}
 use denote.Ref.{Bor}
+use denote.MutBor.{MutBor}
 use Rattle.num.specs.Answer.{gives, refuses}
 use Rattle.num.specs.Choice.{pick}
 use Rattle.num.specs.declared.Order.{Order}
@@ -117,13 +118,13 @@ module _ (κ : Lfts 1) (κ' κ'' : Lfts 2) (o : Order) (s s' s'' : Bor (List ℕ
   stepped-as : AsAtCursor o s.now c t
   stepped-as = given-as-at-cursor o s.now c t i (sym made.item ∙ gave) made
 
-  pub shorts-of-as-at : (out out' : Bor (List ℤ)) → out'.now ≡ out.now → (x x' : _) →
+  pub shorts-of-as-at : (out out' : MutBor (List ℤ)) → out'.now ≡ out.now → (x x' : _) →
       shorts_at.Post κ' (o, (s', (c, (channel, (out, tt))))) r x → shorts_of.Post κ'' (o, (s'', (t, (channel, (out', tt))))) r' x' →
       (r ≡ r') × (x.1.1.1.1.0.now ≡ x'.1.1.1.1.0.now)
   shorts-of-as-at out out' h x x' p q =
       same-copy false (short_at o) channel out.now r r' x.1.1.1.1.0.now x'.1.1.1.1.0.now stepped-as (rw same at p) (rw (alike, h) at q)
 
-  pub patterns-of-as-at : (out out' : Bor (List ℕ)) → out'.now ≡ out.now → (x x' : _) →
+  pub patterns-of-as-at : (out out' : MutBor (List ℕ)) → out'.now ≡ out.now → (x x' : _) →
       patterns_at.Post κ' (o, (s', (c, (channel, (out, tt))))) r x → patterns_of.Post κ'' (o, (s'', (t, (channel, (out', tt))))) r' x' →
       (r ≡ r') × (x.1.1.1.1.0.now ≡ x'.1.1.1.1.0.now)
   patterns-of-as-at out out' h x x' p q =
