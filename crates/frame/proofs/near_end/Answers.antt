@@ -1,9 +1,9 @@
 -- A byte that differs: the word does not stand there, and is not begun. Where all that were compared agree, the word
 -- stands there, or the bytes that are left begin it.
 use Rattle.std.proofs.Common.{ℕ, ◌+◌, ◌-◌, ◌≤◌, ◌<◌, ◌≡◌, refl, sym, ap, ◌∙◌, Bool, true, false, List, length, drop, get_or, ltb, eq-eqb, ne_eqb, length-drop, arith}
-use mathlib.Core.Bool.{◌&&◌}
-use mathlib.Core.Logic.{◌⊎◌, inl, inr, ⊎_elim}
-use borrow.Author.Tests.{ltb-true, ltb-false}
+use Rattle.std.proofs.Math.Bool.{◌&&◌}
+use Rattle.std.proofs.Math.Logic.{◌⊎◌, inl, inr, ⊎_elim}
+use Rattle.std.proofs.lemmas.Bool.{ltb-true, ltb-false}
 use Rattle.num.specs.declared.Order.{Order}
 use Rattle.frame.specs.Place.{sync_bytes, starts, begun, shows}
 use Rattle.frame.specs.declared.At.TheVariants.{Unfinished}
@@ -43,7 +43,7 @@ returns-then-s-place c =
     let w = c.u32_bytes-sync in
     let l = drop a.place a.s.now in
     let i = c.loop-k.invariant in
-    let n : length w.result ≡ 4 = ap length w.ensures ∙ sync-length a.order in
+    let n : length w.result ≡ 4 = omega (arith, ap length w.ensures, sync-length a.order) in
     let h = within-by c.loop-k.k (length a.s.now - a.place) 4 _ _ refl refl c.loop-k-test.true in
     let b = starts-differ w.result a.s.now a.place c.loop-k.k (omega arith) (omega arith) i.word c.if-s-place.true in
     let g = ending-differ w.result a.s.now a.place c.loop-k.k (omega arith) (omega arith) i.ending c.if-s-place.true in
@@ -54,7 +54,7 @@ loop-k-preserved c =
     let a = c.args in
     let w = c.u32_bytes-sync in
     let i = c.loop-k.invariant in
-    let n : length w.result ≡ 4 = ap length w.ensures ∙ sync-length a.order in
+    let n : length w.result ≡ 4 = omega (arith, ap length w.ensures, sync-length a.order) in
     let h = within-by c.loop-k.k (length a.s.now - a.place) 4 _ _ refl refl c.loop-k-test.true in
     record {
       in_word = omega arith;
@@ -69,7 +69,7 @@ returns c =
     let w = c.u32_bytes-sync in
     let l = drop a.place a.s.now in
     let k = c.loop-k.k in
-    let n : length w.result ≡ 4 = ap length w.ensures ∙ sync-length a.order in
+    let n : length w.result ≡ 4 = omega (arith, ap length w.ensures, sync-length a.order) in
     let m : length l ≡ length a.s.now - a.place = length-drop a.place a.s.now in
     ⊎_elim
     (λ h.

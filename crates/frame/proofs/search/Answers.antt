@@ -20,7 +20,7 @@ pub headed-requires : goal.headed-requires
 headed-requires c =
     let a = c.args in
     let w = c.u32_bytes-word in
-    let n : length w.result ≡ 4 = ap length w.ensures ∙ sync-length a.order in
+    let n : length w.result ≡ 4 = omega (arith, ap length w.ensures, sync-length a.order) in
     let t = c.bytes.invariant.same ∙ starts-done w.result (drop (c.places.p + c.bytes.k) a.s.now) c.bytes.k (omega arith) in
     (omega arith, rw w.ensures at t)
 
@@ -28,7 +28,7 @@ pub bytes-preserved : goal.bytes-preserved
 bytes-preserved c =
     let a = c.args in
     let w = c.u32_bytes-word in
-    let n : length w.result ≡ 4 = ap length w.ensures ∙ sync-length a.order in
+    let n : length w.result ≡ 4 = omega (arith, ap length w.ensures, sync-length a.order) in
     record { in_word = omega arith; same = starts-agree w.result a.s.now c.places.p c.bytes.k (omega arith) (omega arith) c.bytes.invariant.same c.if-s-p.false }
 
 -- a place is no stop where a byte of the word differs
