@@ -65,7 +65,7 @@ use Rattle.ending.proofs.Calls.{StepCall, StepOn}
 use Rattle.reading.proofs.Answers.{end-exactly, chunk-exactly}
 use Rattle.reading.proofs.Next.{new-sound}
 use Rattle.claims.specs.Marked.{whole}
-use Rattle.claims.proofs.Promise.{Allows, lent}
+use Rattle.claims.proofs.Promise.{Allows, lent, lent_to_fill}
 
 -- ---- one that skips or refuses everything
 
@@ -158,7 +158,7 @@ knowing = cursor_at 0 true (with_values (emptied false) (set_in Slot.rate (recor
 
 -- a copy of channel 0 into a slice of two numbers may give this answer
 abbrev pub Copies : Lfts 2 → Copied → Type 0
-Copies κs r = Allows shorts.Post κs (Big, (lent pair, (knowing, (0, (lent (pos 0 ∷ pos 0 ∷ []), tt))))) r
+Copies κs r = Allows shorts.Post κs (Big, (lent pair, (knowing, (0, (lent_to_fill (pos 0 ∷ pos 0 ∷ []), tt))))) r
 
 -- the count is 2, not 0 and no other, and the two numbers are copied
 pub no-other-count : (κs : Lfts 2) (r : Copied) → Copies κs r → r ≡ Count 2
@@ -176,7 +176,7 @@ float = whole 0x53 0x46 0x4E 0x52 (0 ∷ 0 ∷ 0 ∷ 0 ∷ 0 ∷ 0 ∷ 0 ∷ 5 �
 abbrev pub scaled : Cursor
 scaled = cursor_at 0 true (with_values (emptied false) (set_in Slot.float_scale (record { present = true; value = of_bits binary32 0x3F800000 }) (set_in Slot.rate (record { present = true; value = pos 1 }) (built none))))
 
-pub no-lost-pattern : (κs : Lfts 2) (r : Copied) (h : Allows patterns.Post κs (Big, (lent float, (scaled, (0, (lent (0 ∷ []), tt))))) r) →
+pub no-lost-pattern : (κs : Lfts 2) (r : Copied) (h : Allows patterns.Post κs (Big, (lent float, (scaled, (0, (lent_to_fill (0 ∷ []), tt))))) r) →
     (r ≡ Count 1) × (h.0.1.1.1.1.0.now ≡ 0x7FC00001 ∷ [])
 unfolding count_of layout_at reals_of shaped step_of good_held good_numbers good_from each upto of_bits to_bits lt shows starts kind_of kind_in known effect
 no-lost-pattern κs r h = (copied-told r (Count 1) h.1.0, h.1.1)

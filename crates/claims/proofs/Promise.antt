@@ -3,6 +3,7 @@
 use mathlib.Core.Path.{◌≡◌, sym, ◌∙◌}
 use mathlib.Core.List.{List}
 use denote.Ref.{Bor}
+use denote.MutBor.{MutBor}
 
 -- two answers to the same arguments are equal
 abbrev pub OneAnswer : {K : Type 0} {A R S : K → Type 0} → ((κs : K) → A κs → R κs → S κs → Type 0) → Type 0
@@ -30,3 +31,7 @@ Allows {K} {A} {R} {S} Post κs a r = (s : S κs) × Post κs a r s
 -- a lent slice that holds these
 abbrev pub lent : {X : Type 0} → List X → Bor (List X)
 lent l = record { ref_ptr = (0, 0); now = l }
+
+-- one that is lent to be filled
+abbrev pub lent_to_fill : {X : Type 0} → List X → MutBor (List X)
+lent_to_fill l = record { ref_ptr = (0, 0); ghost_name = 0; now = l }
