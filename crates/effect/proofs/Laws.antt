@@ -17,6 +17,7 @@ use Rattle.body.specs.Table.{Slot, Value, none, Row, sets, marks, leaves, sample
 use Rattle.body.specs.declared.sampled.Shaped.TheVariants.{NoSamples}
 use Rattle.body.specs.Values.{no_number, no_band, number, centred}
 use Rattle.body.specs.declared.kinds.Kind.{Kind}
+use Rattle.body.specs.declared.kinds.Kind.TheVariants.{SSNC, SSNR, SFNC, SFNR, GSNC, GFNC, SIQP, SR, BW, GCBW, BWOF, CF, DBFS, DBTG, FFS, GIQP, GCF, GRG, SOFH, EOFH, IQDC, TEXT, Unknown}
 use Rattle.body.specs.declared.values.Held.{Held}
 use Rattle.state.specs.State.{set_in, with_values}
 use Rattle.state.specs.declared.State.{State}
@@ -81,3 +82,31 @@ no-samples unknown o b s e = refl
 pub no-data : (o : Order) (k : Kind) (b : List ℕ) (s : State) → shaped k ≡ NoSamples → refuses 35 ≡ ready_data (effect o k b s).says
 unfolding effect shaped
 no-data o k b s e = no-samples (row k) o b s e
+
+-- a kind that is none of the six data kinds has no samples
+pub no-samples-of : (k : Kind) → (k ≡ SSNC → ⊥) → (k ≡ SSNR → ⊥) → (k ≡ SFNC → ⊥) → (k ≡ SFNR → ⊥) → (k ≡ GSNC → ⊥) → (k ≡ GFNC → ⊥) →
+    shaped k ≡ NoSamples
+unfolding shaped
+no-samples-of SSNC a b c d e f = absurd (a refl)
+no-samples-of SSNR a b c d e f = absurd (b refl)
+no-samples-of SFNC a b c d e f = absurd (c refl)
+no-samples-of SFNR a b c d e f = absurd (d refl)
+no-samples-of GSNC a b c d e f = absurd (e refl)
+no-samples-of GFNC a b c d e f = absurd (f refl)
+no-samples-of SIQP a b c d e f = refl
+no-samples-of SR a b c d e f = refl
+no-samples-of BW a b c d e f = refl
+no-samples-of GCBW a b c d e f = refl
+no-samples-of BWOF a b c d e f = refl
+no-samples-of CF a b c d e f = refl
+no-samples-of DBFS a b c d e f = refl
+no-samples-of DBTG a b c d e f = refl
+no-samples-of FFS a b c d e f = refl
+no-samples-of GIQP a b c d e f = refl
+no-samples-of GCF a b c d e f = refl
+no-samples-of GRG a b c d e f = refl
+no-samples-of SOFH a b c d e f = refl
+no-samples-of EOFH a b c d e f = refl
+no-samples-of IQDC a b c d e f = refl
+no-samples-of TEXT a b c d e f = refl
+no-samples-of Unknown a b c d e f = refl

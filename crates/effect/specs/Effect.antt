@@ -13,7 +13,6 @@ use Rattle.state.specs.State.{set_in, with_values, with_mark}
 use Rattle.state.specs.declared.Values.{Values}
 use Rattle.state.specs.declared.State.{State}
 use Rattle.effect.specs.Says.{Says, judged}
-use Rattle.effect.specs.Says as Says
 use Rattle.effect.specs.Ready.{says_of, of_group, no_state, is_ready, in_group}
 
 pub record Effect : Type 0 where

@@ -4,7 +4,6 @@ use Rattle.frame.specs.declared.BadSize.TheVariants.{Large, Uneven}
 use Rattle.frame.specs.declared.Stray.{Stray}
 use Rattle.frame.specs.declared.Stray.TheVariants.{NoSync, Bad}
 use Rattle.reader.specs.declared.Cause.{Cause}
-use Rattle.reader.specs.declared.Cause.TheVariants as Cause
 
 -- a reader that comes searching says so, whatever stands there; one in step says what it met
 abbrev pub cause_of : Bool → Stray → Cause

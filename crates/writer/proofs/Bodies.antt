@@ -2,16 +2,14 @@
 use Prim.Native.Nat.{ℕ, ◌+◌, ◌-◌, ◌*◌, ◌%◌, ◌≤◌, ◌<◌}
 use mathlib.Core.Path.{◌≡◌, refl, sym, ap, ◌∙◌}
 use mathlib.Core.Bool.{Bool, true, false}
-use mathlib.Core.List.{List, [], ◌∷◌, ◌++◌, append_assoc}
+use mathlib.Core.List.{List, ◌++◌, append_assoc}
 use native.Mathlib.Omega.{arith}
 use lib.Dec.{leb, eqb}
 use lib.IntN.{ℤ}
 use lib.ListN.{length, length-append}
 use borrow.Author.Tests.{le-leb, lt-leb}
-use denote.Enum.Declared.{tag_of}
 use mir.Syntax.{w64}
 use mir.Val.{of_z}
-use types.Run.{OneOf}
 use Rattle.num.specs.Answer.{gives, refuses}
 use Rattle.num.specs.Choice.{pick, both}
 use Rattle.num.specs.declared.Order.{Order}
@@ -31,7 +29,6 @@ use Rattle.writer.specs.Inner.Write.{header_bytes}
 use Rattle.writer.specs.Write.{write_by, write_of, laid_by, written_out, written_said}
 use Rattle.writer.specs.declared.Written.{Written}
 use Rattle.writer.specs.declared.Written.TheVariants as W
-use Rattle.writer.specs.contracts.Written.{the_type}
 use Rattle.writer.proofs.Laws.{header-length, after-header, next-room, next-left, other-left, untouched}
 
 pub body-length : {A : Type 0} (bytes : A → List ℕ) (w : ℕ) → ((x : A) → length (bytes x) ≡ w) → (o : Order) (time : ℤ) (xs : List A) →
@@ -105,6 +102,6 @@ module _ {o : Order} {code place : ℕ} {time : ℤ} {ys d d₁ : List ℕ} {a :
       next-left o code (int64 o time ++ ys) d place a data-said d₂ e
       (data-laid o code b.size place time ys d d₁ d₂ b.long (data-room e) (rw e at b.left) h)
 
-  pub data-other : OneOf (1 ∷ 2 ∷ 3 ∷ 4 ∷ []) (tag_of the_type a) → d₁ ≡ written_out o code (int64 o time ++ ys) d place
+  pub data-other : ((next : ℕ) → a ≡ W.Next next → ⊥) → d₁ ≡ written_out o code (int64 o time ++ ys) d place
   data-other t =
       b.left ∙ sym (untouched d place (header_bytes o code b.size ++ int64 o time) a t) ∙ other-left o code (int64 o time ++ ys) d place a data-said t

@@ -7,8 +7,6 @@ use native.Mathlib.Omega.{arith}
 use lib.Dec.{ltb, leb, eqb}
 use lib.ListN.{length, length-append}
 use borrow.Author.Tests.{le-ltb, ltb-true, ltb-false, leb-true}
-use denote.Enum.Declared.{tag_of}
-use types.Run.{OneOf, miss}
 use Rattle.num.specs.Answer.{Answer, gives, refuses, then}
 use Rattle.num.specs.Choice.{pick, both}
 use Rattle.num.specs.Number.{bytes_of}
@@ -28,7 +26,6 @@ use Rattle.writer.specs.Inner.Write.{header_bytes, is_good}
 use Rattle.writer.specs.Write.{may_by, write_by, may_write, write_of, laid_by, written_out, written_said}
 use Rattle.writer.specs.declared.Written.{Written}
 use Rattle.writer.specs.declared.Written.TheVariants as W
-use Rattle.writer.specs.contracts.Written.{the_type}
 
 -- ---- a header
 
@@ -110,9 +107,9 @@ next-room judged size whole place a {next} said e =
     let h = next-by judged size whole place next (sym said ∙ ap written_said e) in
     record { small = good-limit size (taken-by judged (good_size size) h.0); fits = h.1 }
 
--- in the other cases, of which a test says only the variant's number, nothing is laid
-pub untouched : (d : List ℕ) (place : ℕ) (vs : List ℕ) (a : Written) → OneOf (1 ∷ 2 ∷ 3 ∷ 4 ∷ []) (tag_of the_type a) → d ≡ laid_by (written_said a) d place vs
-untouched d place vs (W.Next next) t = absurd (miss (1 ∷ 2 ∷ 3 ∷ 4 ∷ []) 0 tt t)
+-- in the other cases, of which a test says only that they are no next place, nothing is laid
+pub untouched : (d : List ℕ) (place : ℕ) (vs : List ℕ) (a : Written) → ((next : ℕ) → a ≡ W.Next next → ⊥) → d ≡ laid_by (written_said a) d place vs
+untouched d place vs (W.Next next) t = absurd (t next refl)
 untouched d place vs W.PastEnd t = refl
 untouched d place vs W.BadSize t = refl
 untouched d place vs (W.Malformed f) t = refl
@@ -122,5 +119,5 @@ module _ (o : Order) (code : ℕ) (body d : List ℕ) (place : ℕ) (a : Written
   pub next-left : {next : ℕ} (l : List ℕ) → a ≡ W.Next next → l ≡ splice d place (chunk_bytes o code body) → l ≡ written_out o code body d place
   next-left l e h = rw (← said, e) h
 
-  pub other-left : OneOf (1 ∷ 2 ∷ 3 ∷ 4 ∷ []) (tag_of the_type a) → d ≡ written_out o code body d place
+  pub other-left : ((next : ℕ) → a ≡ W.Next next → ⊥) → d ≡ written_out o code body d place
   other-left t = rw (← said) (untouched d place (chunk_bytes o code body) a t)

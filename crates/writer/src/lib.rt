@@ -71,8 +71,8 @@ fn put_header(order: Order, code: u32, size: u32, out: &mut [u8], place: usize)
 
 // A whole chunk: header and body.
 fn put_chunk(order: Order, code: u32, body: &[u8], out: &mut [u8], place: usize)
-    requires body_in_bounds { place + header_size + length body.now ≤ length out.old }
-    requires body_len_bound { length body.now < 4294967296 }
+    requires room { place + header_size + length body.now ≤ length out.old }
+    requires small { length body.now < 4294967296 }
     ensures { out.new ≡ splice out.old place (chunk_bytes order code body.now) }
 {
     let size = body.len() as u32;

@@ -19,8 +19,8 @@ fn write(
     out: &mut [u8],
     place: usize,
 ) -> Written
-    requires le_unit { 1 ≤ unit }
-    requires by_size { BySize order code unit }
+    requires positive { 1 ≤ unit }
+    requires sized { BySize order code unit }
     ensures said { written_said result
         ≡ write_of order code (short_body order time samples.now) (length out.old) place }
     ensures left { out.new
