@@ -12,7 +12,7 @@ use borrow.Author.Tests.{eqb-true, ltb-true, ltb-false}
 use Rattle.num.specs.Answer.{refuses, refusal}
 use Rattle.num.specs.Choice.{pick}
 use Rattle.num.specs.declared.Order.{Order}
-use Rattle.frame.specs.Frames.{Frame, chunk, of_chunk, first, frames, covered}
+use Rattle.frame.specs.Frames.{Frame, chunk, of_chunk, frames, covered}
 use Rattle.frame.proofs.Looks.{frame-by, other-made}
 use Rattle.frame.proofs.Theorems.{covered-whole}
 use Rattle.body.specs.Kind.{kind_of}

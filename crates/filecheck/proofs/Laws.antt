@@ -1,12 +1,10 @@
--- Laws of the check, one item at a time, and of the arms that name several variants.
+-- Laws of the check, one item at a time, and of the arms of every other case.
 use Prim.Native.Nat.{ℕ, ◌+◌, ◌≤◌, ◌<◌}
 use mathlib.Core.Path.{◌≡◌, refl, ap, ◌∙◌}
 use mathlib.Core.Bool.{Bool, true, false}
 use mathlib.Core.List.{List, [], ◌∷◌}
 use native.Mathlib.Omega.{arith}
-use denote.Enum.Declared.{tag_of}
 use lib.ListN.{length, take, drop, drop_of_length-le}
-use types.Run.{OneOf, miss}
 use Rattle.num.specs.Answer.{gives, refuses}
 use Rattle.num.specs.Choice.{pick}
 use Rattle.num.specs.declared.Order.{Order}
@@ -14,6 +12,8 @@ use Rattle.frame.specs.Place.{shows}
 use Rattle.frame.specs.Frames.{frames}
 use Rattle.frame.specs.Ahead.{ahead_of, is_chunk}
 use Rattle.frame.specs.declared.At.TheVariants.{Complete}
+use Rattle.frame.specs.declared.Ahead.{Ahead}
+use Rattle.frame.specs.declared.Ahead.TheVariants.{End, Stretch, Cut, Chunk}
 use Rattle.frame.proofs.Looks.{other-made}
 use Rattle.frame.proofs.Frames.{frames-nil, frames-chunk, no-chunk}
 use Rattle.body.specs.Kind.{kind_of}
@@ -21,14 +21,19 @@ use Rattle.reader.proofs.Laws.{chunk-size}
 use Rattle.filecheck.specs.File.{FileAnswer, good, refused, part_of, well_formed, begins, passes, then_rest, file_from, file_ahead, file_by, file_of}
 use Rattle.filecheck.specs.declared.Part.{Part}
 use Rattle.filecheck.specs.declared.Part.TheVariants.{Data, Header, HeaderEnd, Other}
-use Rattle.filecheck.specs.contracts.Part as Part
 
--- an arm says only that the variant's number is one of its keys
-pub not-header : (p : Part) (well : Bool) → OneOf (0 ∷ 2 ∷ 3 ∷ []) (tag_of Part.the_type p) → begins p well ≡ false
-not-header Data well e = refl
-not-header Header well e = absurd (miss (0 ∷ 2 ∷ 3 ∷ []) 1 tt e)
-not-header HeaderEnd well e = refl
-not-header Other well e = refl
+-- the arm of every other case says only that the case is not the one
+pub not-chunk : (a : Ahead) → ((code size : ℕ) → a ≡ Chunk code size → ⊥) → is_chunk a ≡ false
+not-chunk End h = refl
+not-chunk (Stretch stray) h = refl
+not-chunk Cut h = refl
+not-chunk (Chunk code size) h = absurd (h code size refl)
+
+pub not-header : (p : Part) (well : Bool) → (p ≡ Header → ⊥) → begins p well ≡ false
+not-header Data well h = refl
+not-header Header well h = absurd (h refl)
+not-header HeaderEnd well h = refl
+not-header Other well h = refl
 
 -- a file that shows no chunk at its start
 pub file-not : (o : Order) (s : List ℕ) → is_chunk (ahead_of o s) ≡ false → file_of o s ≡ refused 41 0

@@ -57,6 +57,7 @@ enum Turn {
 }
 
 // The part of a kind.
+#[tactic(auto, unfolding(crate::specs::File::part_of, body::specs::Table::shaped))]
 fn part_of(kind: Kind) -> Part
     ensures { result ≡ part_of kind }
 {

@@ -2,11 +2,8 @@
 use Prim.Native.Nat.{ℕ}
 use mathlib.Core.Path.{◌≡◌, refl, sym, ap, ◌∙◌}
 use mathlib.Core.Bool.{Bool, true, false}
-use mathlib.Core.List.{List, [], ◌∷◌}
-use mathlib.Core.Logic.{⊎_elim}
+use mathlib.Core.List.{List}
 use native.Mathlib.Omega.{arith}
-use denote.Enum.Declared.{tag_of}
-use types.Run.{OneOf, miss}
 use lib.Dec.{eqb}
 use lib.IntN.{ℤ, pos, negsuc}
 use lib.ListN.{drop}
@@ -24,11 +21,10 @@ use Rattle.body.specs.declared.sampled.Data.{Data}
 use Rattle.effect.specs.Says.{verdict_said}
 use Rattle.effect.specs.declared.Verdict.{Verdict}
 use Rattle.effect.specs.declared.Verdict.TheVariants.{Good, Unknown, Malformed, NotCovered, Waits, Ready}
-use Rattle.effect.specs.contracts.Verdict as verdict
 use Rattle.reader.specs.Item.{chunk, item_said}
 use Rattle.reader.specs.declared.Item.{Item}
-use Rattle.reader.specs.contracts.Item as item
-use Rattle.reader.proofs.Laws.{no-chunk-told, other-item}
+use Rattle.reader.specs.declared.Item.TheVariants.{PastEnd, BadState, End, Skipped, Unfinished}
+use Rattle.reader.specs.declared.Item.TheVariants as Item
 use Rattle.state.specs.declared.State.{State}
 use Rattle.samples.specs.Copy.{layout_in}
 use Rattle.samples.specs.Given.{same_time, same_data, is_that, is_there, layout_there}
@@ -85,17 +81,20 @@ pick-same false x = refl
 
 module _ (float : Bool) (o : Order) (s : List ℕ) (channel : ℕ) (shown : State) where
   -- an item that is no chunk
-  pub no-chunk : (i : Item) → OneOf (0 ∷ 1 ∷ 2 ∷ 3 ∷ 4 ∷ []) (tag_of item.the_type i) → layout_there float o s channel shown (item_said i) ≡ refuses 35
-  no-chunk i e =
-      ⊎_elim (λ r. rw r.1) (λ g. rw (g.1, other-item (refuses 35) (λ place code size says. pick (is_there o (drop place s) shown code size says) (layout_in float channel shown says code) (refuses 35)) g.0 g.2))
-      (no-chunk-told i e)
+  pub no-chunk : (i : Item) → ((place code size : ℕ) (v : Verdict) → i ≡ Item.Chunk place code size v → ⊥) → layout_there float o s channel shown (item_said i) ≡ refuses 35
+  no-chunk PastEnd h = refl
+  no-chunk BadState h = refl
+  no-chunk End h = refl
+  no-chunk (Skipped place n cause) h = refl
+  no-chunk (Unfinished place n) h = refl
+  no-chunk (Item.Chunk place code size v) h = absurd (h place code size v refl)
 
   module _ (place code size : ℕ) where
     -- a chunk that is not said to be ready
-    pub not-ready : (v : Verdict) → OneOf (0 ∷ 1 ∷ 2 ∷ 3 ∷ 4 ∷ []) (tag_of verdict.the_type v) → layout_there float o s channel shown (gives (chunk place code size (verdict_said v))) ≡ refuses 35
-    not-ready Good e = pick-same (is_there o (drop place s) shown code size (verdict_said Good)) (refuses 35)
-    not-ready Unknown e = pick-same (is_there o (drop place s) shown code size (verdict_said Unknown)) (refuses 35)
-    not-ready (Malformed f) e = pick-same (is_there o (drop place s) shown code size (verdict_said (Malformed f))) (refuses 35)
-    not-ready NotCovered e = pick-same (is_there o (drop place s) shown code size (verdict_said NotCovered)) (refuses 35)
-    not-ready (Waits l t) e = pick-same (is_there o (drop place s) shown code size (verdict_said (Waits l t))) (refuses 35)
-    not-ready (Ready d) e = absurd (miss (0 ∷ 1 ∷ 2 ∷ 3 ∷ 4 ∷ []) 5 tt e)
+    pub not-ready : (v : Verdict) → ((d : Data) → v ≡ Ready d → ⊥) → layout_there float o s channel shown (gives (chunk place code size (verdict_said v))) ≡ refuses 35
+    not-ready Good h = pick-same (is_there o (drop place s) shown code size (verdict_said Good)) (refuses 35)
+    not-ready Unknown h = pick-same (is_there o (drop place s) shown code size (verdict_said Unknown)) (refuses 35)
+    not-ready (Malformed f) h = pick-same (is_there o (drop place s) shown code size (verdict_said (Malformed f))) (refuses 35)
+    not-ready NotCovered h = pick-same (is_there o (drop place s) shown code size (verdict_said NotCovered)) (refuses 35)
+    not-ready (Waits l t) h = pick-same (is_there o (drop place s) shown code size (verdict_said (Waits l t))) (refuses 35)
+    not-ready (Ready d) h = absurd (h d refl)

@@ -13,8 +13,8 @@ use reader::{Cursor, Stepped};
 // The layout lies inside src, which stands at a place of the stream.
 fn fill_from(order: Order, at: usize, src: &[u8], l: Layout, out: &mut [u32]) -> Copied
     requires { lies 4 (length src.now) l ≡ true }
-    ensures result_value { copied_said result ≡ count_within (length out.old) l }
-    ensures out_after { out.new
+    ensures said { copied_said result ≡ count_within (length out.old) l }
+    ensures left { out.new
         ≡ filled (count_within (length out.old) l) (gives l) (pattern_at order src.now)
         out.old }
 {
@@ -36,8 +36,8 @@ fn fill_from(order: Order, at: usize, src: &[u8], l: Layout, out: &mut [u32]) ->
 // What a plan comes to: the numbers copied, or its refusal.
 fn fill(order: Order, s: &[u8], planned: Planned, out: &mut [u32]) -> Copied
     requires { Sound 4 s.now planned }
-    ensures result_value { copied_said result ≡ planned_count (length out.old) planned }
-    ensures out_after { out.new ≡ planned_left (pattern_at order) s.now planned out.old }
+    ensures said { copied_said result ≡ planned_count (length out.old) planned }
+    ensures left { out.new ≡ planned_left (pattern_at order) s.now planned out.old }
 {
     match planned {
         Planned::Go(layout, from, to) => fill_from(order, from, &s[from..to], layout, out),
@@ -55,8 +55,8 @@ pub fn patterns_at(
     channel: usize,
     out: &mut [u32],
 ) -> Copied
-    ensures result_value { copied_said result ≡ count_of true order s.now cursor channel (length out.old) }
-    ensures out_after { out.new
+    ensures said { copied_said result ≡ count_of true order s.now cursor channel (length out.old) }
+    ensures left { out.new
         ≡ filled (count_of true order s.now cursor channel (length out.old))
         (layout_at true order s.now cursor channel)
         (pattern_at order (samples_at order s.now cursor)) out.old }
@@ -80,9 +80,9 @@ pub fn patterns_of(
     channel: usize,
     out: &mut [u32],
 ) -> Copied
-    ensures result_value { copied_said result
+    ensures said { copied_said result
         ≡ count_given true order s.now stepped channel (length out.old) }
-    ensures out_after { out.new
+    ensures left { out.new
         ≡ filled (count_given true order s.now stepped channel (length out.old))
         (layout_given true order s.now stepped channel)
         (pattern_at order (samples_given s.now stepped)) out.old }

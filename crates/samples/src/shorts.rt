@@ -13,8 +13,8 @@ use reader::{Cursor, Stepped};
 // The layout lies inside src, which stands at a place of the stream.
 fn fill_from(order: Order, at: usize, src: &[u8], l: Layout, out: &mut [i16]) -> Copied
     requires { lies 2 (length src.now) l ≡ true }
-    ensures result_value { copied_said result ≡ count_within (length out.old) l }
-    ensures out_after { out.new
+    ensures said { copied_said result ≡ count_within (length out.old) l }
+    ensures left { out.new
         ≡ filled (count_within (length out.old) l) (gives l) (short_at order src.now)
         out.old }
 {
@@ -36,8 +36,8 @@ fn fill_from(order: Order, at: usize, src: &[u8], l: Layout, out: &mut [i16]) ->
 // What a plan comes to: the numbers copied, or its refusal.
 fn fill(order: Order, s: &[u8], planned: Planned, out: &mut [i16]) -> Copied
     requires { Sound 2 s.now planned }
-    ensures result_value { copied_said result ≡ planned_count (length out.old) planned }
-    ensures out_after { out.new ≡ planned_left (short_at order) s.now planned out.old }
+    ensures said { copied_said result ≡ planned_count (length out.old) planned }
+    ensures left { out.new ≡ planned_left (short_at order) s.now planned out.old }
 {
     match planned {
         Planned::Go(layout, from, to) => fill_from(order, from, &s[from..to], layout, out),
@@ -49,8 +49,8 @@ fn fill(order: Order, s: &[u8], planned: Planned, out: &mut [i16]) -> Copied
 // slice, and answers how many they are. Refused, in this order, with 2, 3, 35, 34 and 33 (see `Copied`); then nothing
 // is written. What lies behind the numbers stays as it was.
 pub fn shorts_at(order: Order, s: &[u8], cursor: Cursor, channel: usize, out: &mut [i16]) -> Copied
-    ensures result_value { copied_said result ≡ count_of false order s.now cursor channel (length out.old) }
-    ensures out_after { out.new
+    ensures said { copied_said result ≡ count_of false order s.now cursor channel (length out.old) }
+    ensures left { out.new
         ≡ filled (count_of false order s.now cursor channel (length out.old))
         (layout_at false order s.now cursor channel)
         (short_at order (samples_at order s.now cursor)) out.old }
@@ -74,9 +74,9 @@ pub fn shorts_of(
     channel: usize,
     out: &mut [i16],
 ) -> Copied
-    ensures result_value { copied_said result
+    ensures said { copied_said result
         ≡ count_given false order s.now stepped channel (length out.old) }
-    ensures out_after { out.new
+    ensures left { out.new
         ≡ filled (count_given false order s.now stepped channel (length out.old))
         (layout_given false order s.now stepped channel)
         (short_at order (samples_given s.now stepped)) out.old }

@@ -1,0 +1,20 @@
+-- What comes of the plan is what the rule says.
+use Rattle.std.proofs.Common.{false, ◌∙◌}
+use Rattle.copy.specs.Samples.{short_at}
+use Rattle.samples.specs.Copy.{layout_at, count_of, samples_at}
+use Rattle.samples.proofs.Copies.{as-told}
+use Rattle.samples.proofs.shorts.shorts_at.Goals as goal
+
+pub returns-clause-said : goal.returns-clause-said
+unfolding count_of
+returns-clause-said c =
+    let a = c.args in
+    let h = as-told (short_at a.order) a.s.now (layout_at false a.order a.s.now a.cursor a.channel) (samples_at a.order a.s.now a.cursor) a.out.now c.plan_at.result c.plan_at.ensures.0 in
+    c.fill.ensures.said ∙ h.0
+
+pub returns-clause-left : goal.returns-clause-left
+unfolding count_of
+returns-clause-left c =
+    let a = c.args in
+    let h = as-told (short_at a.order) a.s.now (layout_at false a.order a.s.now a.cursor a.channel) (samples_at a.order a.s.now a.cursor) a.out.now c.plan_at.result c.plan_at.ensures.0 in
+    c.fill.ensures.left ∙ h.1

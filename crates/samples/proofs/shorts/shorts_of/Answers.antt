@@ -1,0 +1,20 @@
+-- What comes of the plan is what the rule says.
+use Rattle.std.proofs.Common.{false, ◌∙◌}
+use Rattle.copy.specs.Samples.{short_at}
+use Rattle.samples.specs.Given.{layout_given, count_given, samples_given}
+use Rattle.samples.proofs.Copies.{as-told}
+use Rattle.samples.proofs.shorts.shorts_of.Goals as goal
+
+pub returns-clause-said : goal.returns-clause-said
+unfolding count_given
+returns-clause-said c =
+    let a = c.args in
+    let h = as-told (short_at a.order) a.s.now (layout_given false a.order a.s.now a.stepped a.channel) (samples_given a.s.now a.stepped) a.out.now c.plan_of.result c.plan_of.ensures.0 in
+    c.fill.ensures.said ∙ h.0
+
+pub returns-clause-left : goal.returns-clause-left
+unfolding count_given
+returns-clause-left c =
+    let a = c.args in
+    let h = as-told (short_at a.order) a.s.now (layout_given false a.order a.s.now a.stepped a.channel) (samples_given a.s.now a.stepped) a.out.now c.plan_of.result c.plan_of.ensures.0 in
+    c.fill.ensures.left ∙ h.1
