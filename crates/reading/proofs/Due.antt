@@ -19,7 +19,6 @@ use Rattle.frame.specs.declared.At.{At}
 use Rattle.frame.specs.declared.At.TheVariants.{NoSync, Bad, Unfinished, Complete}
 use Rattle.frame.specs.declared.BadSize.TheVariants.{Large, Uneven}
 use Rattle.frame.specs.declared.Stray.{Stray}
-use Rattle.frame.specs.declared.Stray.TheVariants as Stray
 use Rattle.frame.specs.declared.Ahead.{Ahead}
 use Rattle.frame.specs.declared.Ahead.TheVariants.{End, Stretch, Cut, Chunk}
 use Rattle.frame.proofs.Looks.{is-chunk, is-cut, is-stretch, is-end, ahead-at, ahead-none, stretch-ahead}
@@ -29,7 +28,6 @@ use Rattle.reader.specs.Cause.{cause_of}
 use Rattle.reader.specs.Item.{Item, end, skipped, unfinished, chunk}
 use Rattle.reader.specs.Step.{Step, step_by, step_of, unfit}
 use Rattle.reader.specs.declared.Cause.{Cause}
-use Rattle.reader.specs.declared.Cause.TheVariants as Cause
 use Rattle.reader.specs.declared.Cursor.{Cursor}
 use Rattle.reader.proofs.Laws.{step-past, step-unfit, step-ahead, step-end, step-accepts}
 use Rattle.reading.specs.Due.{shows_at, PastEndDue, BadStateDue, CauseDue, SkippedDue, UnfinishedDue, ChunkDue, Due}

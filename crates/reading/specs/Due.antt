@@ -14,7 +14,6 @@ use Rattle.effect.specs.Effect.{effect}
 use Rattle.reader.specs.Item.{Item, end, skipped, unfinished, chunk}
 use Rattle.reader.specs.Step.{before}
 use Rattle.reader.specs.declared.Cause.{Cause}
-use Rattle.reader.specs.declared.Cause.TheVariants as Cause
 use Rattle.reader.specs.declared.Cursor.{Cursor}
 use Rattle.reading.specs.Ends.{Sound}
 
