@@ -30,7 +30,6 @@ use Rattle.cover.specs.Cover.{group_covers}
 use Rattle.state.specs.declared.Values.{Values}
 use Rattle.state.specs.declared.State.{State}
 use Rattle.effect.specs.Says.{Says, ok, bad, waits, ready, judged, says_number}
-use Rattle.effect.specs.Says as Says
 use Rattle.effect.specs.Ready.{data_says, covering, says_of}
 use Rattle.effect.specs.Effect.{effect_by, effect}
 use Rattle.reader.specs.Step.{before, step_by, step_of, Fit}
