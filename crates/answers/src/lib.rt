@@ -25,6 +25,7 @@ use samples::Copied;
 use writer::Written;
 
 // The text of a number of refusal; no byte for a number that no refusal has.
+#[tactic(auto, unfolding(crate::specs::Refusals::refusal_text, crate::specs::Refusals::rows, crate::specs::Refusals::text_in))]
 pub fn refusal(number: u32) -> Text
     ensures { result ≡ text_of (refusal_text number) }
 {

@@ -24,9 +24,7 @@ use Rattle.effect.specs.declared.Verdict.TheVariants.{Good, Unknown, Malformed, 
 use Rattle.reader.specs.Item.{chunk, item_said}
 use Rattle.reader.specs.declared.Item.{Item}
 use Rattle.reader.specs.declared.Item.TheVariants.{PastEnd, BadState, End, Skipped, Unfinished}
-use Rattle.reader.specs.declared.Item.TheVariants as Item
 use Rattle.state.specs.declared.State.{State}
-use Rattle.samples.specs.Copy.{layout_in}
 use Rattle.samples.specs.Given.{same_time, same_data, is_that, is_there, layout_there}
 
 -- ---- the tests tell what is equal

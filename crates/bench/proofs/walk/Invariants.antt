@@ -1,6 +1,6 @@
 -- What was counted and what is sound ahead of the cursor make up what is sound in the stream, and the steps that are left
 -- lead from the cursor to where all of them lead; each step keeps both.
-use Rattle.std.proofs.Common.{◌≡◌, ℕ, ◌+◌, ◌-◌, ◌≤◌, length}
+use Rattle.std.proofs.Common.{◌≡◌, ◌+◌, ◌-◌, ◌≤◌, length}
 use Rattle.reader.specs.Items.{items}
 use Rattle.reader.specs.Reading.{ahead}
 use Rattle.reader.specs.Step.{new_cursor, after, Fit}

@@ -1,5 +1,5 @@
 -- The tests come in a step's order; the chunk ahead is the one that a step would give.
-use Rattle.std.proofs.Common.{◌≡◌, ℕ, ◌+◌, ◌≤◌, Bool, true, false, not, List, refl, sym, ◌∙◌, arith, rules, length, take, drop}
+use Rattle.std.proofs.Common.{◌≡◌, ℕ, ◌+◌, ◌≤◌, Bool, true, false, not, List, refl, sym, ◌∙◌, arith, length, take, drop}
 use borrow.Author.Tests.{not-true, not-false}
 use Rattle.num.specs.Answer.{gives}
 use Rattle.num.specs.Choice.{both}
