@@ -1,15 +1,20 @@
 -- The three cases of a listing.
-use Prim.Native.Nat.{ℕ, ◌≤◌, ◌<◌}
+use Prim.Native.Nat.{ℕ, ◌+◌, ◌≤◌, ◌<◌}
 use mathlib.Core.Path.{◌≡◌, refl}
 use mathlib.Core.Bool.{Bool, true, false}
-use mathlib.Core.List.{List}
+use mathlib.Core.List.{List, ◌++◌}
+use native.Mathlib.Omega.{arith}
 use lib.Dec.{ltb}
-use lib.ListN.{length}
-use borrow.Author.Tests.{lt-ltb, le-ltb, ltb-true, ltb-false}
+use lib.ListN.{length, drop}
+use borrow.Author.Tests.{lt-ltb, le-ltb, ltb-true, ltb-false, le-leb}
 use Rattle.num.specs.Answer.{Answer, gives, refuses}
 use Rattle.num.specs.declared.Order.{Order}
 use Rattle.frame.specs.Place.{order_of}
 use Rattle.listing.specs.Lines.{long_line, none_line, listing}
+use Rattle.listing.specs.Text.{text_of, shown}
+use Rattle.listing.specs.declared.string.Text.{Text}
+use Rattle.lay.specs.Splice.{overlaid}
+use Rattle.lister.proofs.Laws.{text-shows}
 use Rattle.lister.specs.Listed.{most, items_of, listed}
 
 module _ (s : List ℕ) where
@@ -42,3 +47,14 @@ module _ (s : List ℕ) where
 
     pub listed_by : P (listed s)
     listed_by = by_length (ltb most (length s)) refl
+
+-- a text that was made of the line `long` shows it
+pub shows-long : (t : Text) → t ≡ text_of long_line → shown t ≡ long_line
+shows-long t e = text-shows t long_line e (omega arith)
+
+-- what is laid where it fits, where it fits
+pub laid-fits : (d vs : List ℕ) → 0 + length vs ≤ length d → overlaid d 0 vs ≡ vs ++ drop (0 + length vs) d
+laid-fits d vs h = rw (le-leb (0 + length vs) (length d) h)
+
+-- a stream that is too long
+pub ruleset too_long = (listed-long, shows-long, laid-fits)

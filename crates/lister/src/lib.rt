@@ -80,6 +80,7 @@ fn ordered(order: Order, s: &[u8], out: &mut [u8]) -> usize
 }
 
 // Lays the listing of a stream line by line, each line where it fits, and answers how many bytes it has.
+#[tactic(auto, using(crate::proofs::Cases::too_long))]
 fn whole(s: &[u8], out: &mut [u8]) -> usize
     ensures said { result ≡ length (listed s.now) }
     ensures left { Lays out.old 0 (listed s.now) out.new }

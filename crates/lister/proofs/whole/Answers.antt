@@ -1,22 +1,20 @@
 -- One line where the stream is too long or has no sync word, and else the lines in the order that was found.
-use Rattle.std.proofs.Common.{◌∙◌, ap, arith, sym}
+use Rattle.std.proofs.Common.{◌≤◌, ◌∙◌, ap, arith, length, sym}
 use Rattle.frame.specs.Place.{order_said}
-use Rattle.listing.specs.Lines.{long_line, none_line}
-use Rattle.lister.proofs.Cases.{listed-long, listed-order, listed-none}
+use Rattle.listing.specs.Lines.{none_line}
+use Rattle.lister.specs.Listed.{most}
+use Rattle.lister.proofs.Cases.{listed-order, listed-none}
 use Rattle.lister.proofs.Laws.{text-shows, one-lays}
 use Rattle.lister.proofs.whole.Goals as goal
 
-pub returns-then-s-gt-MOST : goal.returns-then-s-gt-MOST
-returns-then-s-gt-MOST c =
-    let e = text-shows _ long_line c.long_line.ensures (omega arith) in
-    let p = one-lays c.args.out.now _ long_line c.put.result (rw e at c.put.ensures.said, rw e at c.put.ensures.left) in
-    rw (listed-long c.args.s.now c.if-s-gt-MOST.true) (record { said = p.0; left = p.1 })
-
 pub returns-in-Is : goal.returns-in-Is
-returns-in-Is c = rw (listed-order c.args.s.now _ c.if-s-gt-MOST.false (sym c.find_order.ensures ∙ ap order_said c.in-Is.is)) c.ordered.ensures
+returns-in-Is c =
+    let h : length c.args.s.now ≤ most = omega arith in
+    rw (listed-order c.args.s.now _ h (sym c.find_order.ensures ∙ ap order_said c.in-Is.is)) c.ordered.ensures
 
 pub returns-in-Neither : goal.returns-in-Neither
 returns-in-Neither c =
     let e = text-shows _ none_line c.none_line.ensures (omega arith) in
     let p = one-lays c.args.out.now _ none_line c.put-in-Neither.result (rw e at c.put-in-Neither.ensures.said, rw e at c.put-in-Neither.ensures.left) in
-    rw (listed-none c.args.s.now 1 c.if-s-gt-MOST.false (sym c.find_order.ensures ∙ ap order_said c.in-Neither.is)) (record { said = p.0; left = p.1 })
+    let h : length c.args.s.now ≤ most = omega arith in
+    rw (listed-none c.args.s.now 1 h (sym c.find_order.ensures ∙ ap order_said c.in-Neither.is)) (record { said = p.0; left = p.1 })
