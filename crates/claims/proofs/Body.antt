@@ -8,7 +8,7 @@ use Rattle.body.proofs.sampled.sfnc.Reads as sfnc
 use Rattle.body.proofs.sampled.sfnr.Reads as sfnr
 use Rattle.body.proofs.sampled.ssnc.Reads as ssnc
 use Rattle.body.proofs.sampled.ssnr.Reads as ssnr
-use Rattle.body.proofs.values.no_number.Reads as no-number
+use Rattle.body.proofs.values.no_number.Reads as no_number
 use Rattle.body.proofs.values.no_band.Reads as no_band
 use Rattle.body.proofs.values.no_level.Reads as no_level
 use Rattle.body.proofs.sampled.shape_of.Reads as shape_of
@@ -19,7 +19,7 @@ use Rattle.body.proofs.groups.grg.Reads as grg
 use Rattle.body.proofs.groups.no_gains.Reads as no_gains
 use Rattle.body.proofs.groups.no_hertz.Reads as no_hertz
 use Rattle.body.proofs.groups.no_packing.Reads as no_packing
-use Rattle.body.proofs.kinds.code_of.Reads as code_of_lem
+use Rattle.body.proofs.kinds.code_of.Reads as code_of
 use Rattle.body.proofs.kinds.kind_of.Reads as kind_of
 use Rattle.body.proofs.kinds.letters_of.Reads as letters_of
 use Rattle.body.proofs.levels.dbfs.Reads as dbfs
@@ -42,7 +42,7 @@ fault-number-one-answer κs a r r' s s' p q = p ∙ sym q
 pub kind-of-one-answer : OneAnswer kind_of.Post
 kind-of-one-answer κs a r r' s s' p q = p ∙ sym q
 
-pub code-of-one-answer : OneAnswer code_of_lem.Post
+pub code-of-one-answer : OneAnswer code_of.Post
 code-of-one-answer κs a r r' s s' p q = p ∙ sym q
 
 pub letters-of-one-answer : OneAnswer letters_of.Post
@@ -127,7 +127,7 @@ gcf-one-answer κs a r r' s s' p q = λ i. record { checked = read-checked p q i
 pub grg-one-answer : OneAnswer grg.Post
 grg-one-answer κs a r r' s s' p q = λ i. record { checked = read-checked p q i; gains = read-value p q i }
 
-pub no-number-one-answer : OneAnswer no-number.Post
+pub no-number-one-answer : OneAnswer no_number.Post
 no-number-one-answer κs a r r' s s' p q = p ∙ sym q
 
 pub no-band-one-answer : OneAnswer no_band.Post

@@ -3,7 +3,7 @@ use mathlib.Core.Path.{sym, ◌∙◌}
 use Rattle.claims.proofs.Promise.{OneAnswer}
 use Rattle.listing.proofs.first_line.Reads as first_line
 use Rattle.listing.proofs.item_line.Reads as item_line
-use Rattle.listing.proofs.last_line.Reads as last_Line
+use Rattle.listing.proofs.last_line.Reads as last_line
 use Rattle.listing.proofs.long_line.Reads as long_line
 use Rattle.listing.proofs.none_line.Reads as none_line
 use Rattle.listing.proofs.piece_at.Reads as piece_at
@@ -22,7 +22,7 @@ first-line-one-answer κs a r r' s s' p q = p ∙ sym q
 pub item-line-one-answer : OneAnswer item_line.Post
 item-line-one-answer κs a r r' s s' p q = p ∙ sym q
 
-pub last-line-one-answer : OneAnswer last_Line.Post
+pub last-line-one-answer : OneAnswer last_line.Post
 last-line-one-answer κs a r r' s s' p q = p ∙ sym q
 
 pub long-line-one-answer : OneAnswer long_line.Post

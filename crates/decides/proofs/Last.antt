@@ -133,8 +133,8 @@ module _ (o : Order) (k : Kind) (fs : List Frame) (shown : Values) (e : shown �
     absent h = rw e (none-by x (last_values o fs) (group_shaped (shaped k)) (in-built (last_value o fs) x ∙ h))
 
     -- No chunk has set the slot since the step was regained: the value is shown as absent.
-    pub last_none : NoneSince x fs → value_in x shown ≡ none x
-    last_none n = absent (ap (value_of o x) (none-since x fs n))
+    pub last-none : NoneSince x fs → value_in x shown ≡ none x
+    last-none n = absent (ap (value_of o x) (none-since x fs n))
 
     module _ (code : ℕ) (b : List ℕ) (l : LastIs x fs code b) where
       -- The last chunk that sets it is malformed: the value is shown as absent.

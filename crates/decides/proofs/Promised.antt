@@ -23,7 +23,7 @@ use Rattle.reader.specs.declared.Item.TheVariants.{Chunk}
 use Rattle.ending.proofs.Calls.{NewCall, new-met, StepCall}
 use Rattle.ending.proofs.Runs.{Run, run-is-step}
 use Rattle.decides.specs.Last.{LastIs, NoneSince, last_value, last_values, group_shaped, shown_by, is_counted}
-use Rattle.decides.proofs.Last.{last-sums, last-group, last_none, last-malformed, last-well}
+use Rattle.decides.proofs.Last.{last-sums, last-group, last-none, last-malformed, last-well}
 use Rattle.decides.proofs.Shown.{last-decides}
 
 -- Calls of step on a stream, from a new cursor, of which call k answers with a ready chunk.
@@ -49,7 +49,7 @@ module _ (o : Order) (s : List ℕ) (start : NewCall) (m : ℕ) (calls : ℕ →
   module _ (x : Slot) where
     -- A value that no chunk has set since the step was regained is shown as absent.
     pub run-last-none : NoneSince x (take k (frames o s)) → value_in x (calls k).result.shown.values ≡ none x
-    run-last-none n = last_none o (kind_of code) (take k (frames o s)) (calls k).result.shown.values run-last-decides x n
+    run-last-none n = last-none o (kind_of code) (take k (frames o s)) (calls k).result.shown.values run-last-decides x n
 
     module _ (c : ℕ) (b : List ℕ) (l : LastIs x (take k (frames o s)) c b) where
       -- So is one that a malformed chunk was the last to set.

@@ -45,8 +45,8 @@ module _ (s : List ℕ) where
     by_length true e = let h = ltb-true most (length s) e in rw (listed-long h) (long h)
     by_length false e = by_order (ltb-false most (length s) e) (order_of s) refl
 
-    pub listed_by : P (listed s)
-    listed_by = by_length (ltb most (length s)) refl
+    pub listed-by : P (listed s)
+    listed-by = by_length (ltb most (length s)) refl
 
 -- a text that was made of the line `long` shows it
 pub shows-long : (t : Text) → t ≡ text_of long_line → shown t ≡ long_line

@@ -23,13 +23,13 @@ use Rattle.lister.specs.declared.Listed.{Listed}
 use Rattle.lister.specs.declared.Listed.TheVariants.{Laid, Needs}
 use Rattle.lister.proofs.Laws.{overlaid-length}
 use Rattle.lister.proofs.Bound.{listing-length}
-use Rattle.lister.proofs.Cases.{listed-long, listed-none, listed_by}
+use Rattle.lister.proofs.Cases.{listed-long, listed-none, listed-by}
 
 -- ---- how long a listing is
 
 -- No stream has a listing of more than 352,968 bytes, which is what the code has as ROOM.
 pub listed-room : (s : List ℕ) → length (listed s) ≤ longest
-listed-room s = listed_by s (λ (l : List ℕ). length l ≤ longest) (λ h. omega arith) (λ o h e. listing-length o s h) (λ n h e. omega arith)
+listed-room s = listed-by s (λ (l : List ℕ). length l ≤ longest) (λ h. omega arith) (λ o h e. listing-length o s h) (λ n h e. omega arith)
 
 -- ---- when it is long, and when none
 
@@ -41,7 +41,7 @@ first-byte Little n is = refl
 -- The listing is `long` just where the stream has more than 65,536 bytes.
 pub long-just : (s : List ℕ) → listed s ≡ long_line ↔ most < length s
 long-just s = (
-  listed_by s (λ (l : List ℕ). l ≡ long_line → most < length s) (λ h e. h)
+  listed-by s (λ (l : List ℕ). l ≡ long_line → most < length s) (λ h e. h)
       (λ o h q e. absurd (omega (arith, first-byte o (length s) (items_of o s), ap (λ (l : List ℕ). get_or l 0 0) e)))
       (λ n h q e. absurd (omega (arith, ap (λ (l : List ℕ). get_or l 0 0) e))),
   listed-long s,
@@ -69,7 +69,7 @@ no-order s h (gives o) e =
 -- The listing of a stream that is not too long is `none` just where no sync word of either order stands in it.
 pub none-just : (s : List ℕ) → length s ≤ most → listed s ≡ none_line ↔ NoneBelow s (length s)
 none-just s m = (
-  listed_by s (λ (l : List ℕ). l ≡ none_line → NoneBelow s (length s)) (λ h e. absurd (omega arith))
+  listed-by s (λ (l : List ℕ). l ≡ none_line → NoneBelow s (length s)) (λ h e. absurd (omega arith))
       (λ o h q e. absurd (omega (arith, first-byte o (length s) (items_of o s), ap (λ (l : List ℕ). get_or l 0 0) e)))
       (λ n h q e. (order-refused s n q).1),
   λ h. listed-none s 1 m (no-order s h (order_of s) refl),
