@@ -6,39 +6,43 @@ use num::Order;
 use reader::{Cursor, Item, Stepped};
 use samples::Copied;
 use show::print;
+use std::io;
+use std::io::Read;
 
-fn main() {
-    let mut bytes = [0u8; 65536];
-    let n = io::read_full(0, &mut bytes);
-    recording(&bytes[..n]);
+fn main(rt: HostRuntime) -> io::Result<()> {
+    let mut bytes = Vec::new(rt.alloc());
+    rt.reader().take(65536).read_to_end(&mut bytes)?;
+    recording(&rt, &bytes)
 }
 
-fn recording(s: &[u8]) {
+fn recording(rt: &impl Print, s: &[u8]) -> io::Result<()> {
     if let OrderFound::Is(order) = frame::find_order(s) {
-        items(order, s);
+        items(rt, order, s)?;
     }
+    Ok(())
 }
 
 // One step after the other. Each item has a byte at least, so there are no more steps than bytes.
-fn items(order: Order, s: &[u8]) {
+fn items(rt: &impl Print, order: Order, s: &[u8]) -> io::Result<()> {
     let mut cursor = Cursor::new();
     for _ in 0..s.len() {
         let stepped = cursor.step(order, s);
         let item = stepped.item;
         if let Item::End = item {
-            return;
+            break;
         }
-        print(listing::item_line(item));
-        channel_zero(order, s, stepped);
-        let next = stepped.cursor;
-        cursor = next;
+        print(rt, listing::item_line(item))?;
+        channel_zero(rt, order, s, stepped)?;
+        cursor = stepped.cursor;
     }
+    Ok(())
 }
 
 // The 16-bit numbers of channel 0, I before Q, where the step gave a ready chunk that has such.
-fn channel_zero(order: Order, s: &[u8], stepped: Stepped) {
+fn channel_zero(rt: &impl Print, order: Order, s: &[u8], stepped: Stepped) -> io::Result<()> {
     let mut out = [0i16; 34816];
     if let Copied::Count(n) = samples::shorts_of(order, s, stepped, 0, &mut out) {
-        show::print_shorts(&out, n);
+        show::print_shorts(rt, &out, n)?;
     }
+    Ok(())
 }

@@ -2,7 +2,7 @@
 // there, and at the end of the input one for an end that was not finished.
 #![tactic(auto)]
 
-ghost use Rattle.std.specs.Prelude.{◌≡◌, ◌≤◌, length};
+ghost use Rattle.std.specs.Prelude.{◌≡◌, ◌≤◌, length, IfOk};
 ghost use Rattle.reader.specs.Item.{item_said};
 ghost use Rattle.growing.specs.Held as Held;
 ghost use Rattle.growing.specs.Held.{held};
@@ -11,36 +11,37 @@ use frame::OrderFound;
 use num::Order;
 use reader::{Cursor, Item};
 use show::print;
+use std::io;
+use std::io::Read;
 
-fn main() {
+fn main(rt: HostRuntime) -> io::Result<()> {
     let mut bytes = [0u8; 65536];
-    follow(&mut bytes);
+    follow(&rt, &mut rt.reader(), &mut bytes)
 }
 
 // The bytes that have come stand at the start of the slice, n of them. Each turn has one more at least, so there are no
 // more turns than the slice has bytes.
-fn follow(bytes: &mut [u8]) {
+fn follow(rt: &impl Print, input: &mut impl Read, bytes: &mut [u8]) -> io::Result<()> {
     let mut cursor = Cursor::new();
     let mut n = 0;
-    let mut now = part(bytes, 0);
+    let mut now = part(input, bytes, 0)?;
     while n < now {
         n = now;
-        let next = grown(&bytes[0..n], cursor);
-        cursor = next;
-        now = part(bytes, n);
+        cursor = grown(rt, &bytes[0..n], cursor)?;
+        now = part(input, bytes, n)?;
     }
-    ended(&bytes[0..n], cursor);
+    ended(rt, &bytes[0..n], cursor)
 }
 
 // Reads the bytes that come next: 64 at most, so that a file that is whole comes in parts too. The answer is how many
 // bytes there are then; it is `from` at the end of the input, and where the slice is full.
-fn part(bytes: &mut [u8], from: usize) -> usize
+fn part(input: &mut impl Read, bytes: &mut [u8], from: usize) -> io::Result<usize>
     requires { from ≤ length bytes.old }
-    ensures { (from ≤ result) × (result ≤ length bytes.new) }
+    ensures { IfOk result (λ now. (from ≤ now) × (now ≤ length bytes.new)) }
 {
     let to = further(from, bytes.len());
-    let got = libc::read(0, &mut bytes[from..to]);
-    from + io::count(got, &bytes[from..to])
+    let more = input.read(&mut bytes[from..to])?;
+    Ok(from + more)
 }
 
 // 64 bytes on, or the end where it is nearer.
@@ -53,20 +54,20 @@ fn further(from: usize, end: usize) -> usize
 
 // More bytes have come: says how many there are, and reads on from the cursor. The byte order is that of the first sync
 // word, so once it is found it stays.
-fn grown(s: &[u8], cursor: Cursor) -> Cursor {
-    print(listing::word(b"read"));
-    print(listing::number(s.len()));
-    print(listing::newline());
+fn grown(rt: &impl Print, s: &[u8], cursor: Cursor) -> io::Result<Cursor> {
+    print(rt, listing::word(b"read"))?;
+    print(rt, listing::number(s.len()))?;
+    print(rt, listing::newline())?;
     if let OrderFound::Is(order) = frame::find_order(s) {
-        return read_on(order, s, cursor);
+        return read_on(rt, order, s, cursor);
     }
-    cursor
+    Ok(cursor)
 }
 
 // One step after the other, up to an unfinished end or the end of the bytes. The cursor there is the one from which to
 // go on.
-fn read_on(order: Order, s: &[u8], cursor: Cursor) -> Cursor
-    ensures { result ≡ held order s.now cursor }
+fn read_on(rt: &impl Print, order: Order, s: &[u8], cursor: Cursor) -> io::Result<Cursor>
+    ensures { IfOk result (λ left. left ≡ held order s.now cursor) }
 {
     let mut at = cursor;
     for _ in 0..s.len() {
@@ -74,12 +75,12 @@ fn read_on(order: Order, s: &[u8], cursor: Cursor) -> Cursor
         let item = stepped.item;
         let next = stepped.cursor;
         if waits(item) {
-            return at;
+            return Ok(at);
         }
-        print(listing::item_line(item));
+        print(rt, listing::item_line(item))?;
         at = next;
     }
-    at
+    Ok(at)
 }
 
 // Whether more bytes are needed to go on.
@@ -109,10 +110,11 @@ fn waits(item: Item) -> bool
 }
 
 // The input has ended: a line for an unfinished end.
-fn ended(s: &[u8], cursor: Cursor) {
+fn ended(rt: &impl Print, s: &[u8], cursor: Cursor) -> io::Result<()> {
     if let OrderFound::Is(order) = frame::find_order(s) {
         let stepped = cursor.step(order, s);
         let item = stepped.item;
-        print(listing::item_line(item));
+        print(rt, listing::item_line(item))?;
     }
+    Ok(())
 }

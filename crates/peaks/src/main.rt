@@ -9,36 +9,39 @@ use num::Order;
 use reader::{Cursor, Item, Stepped};
 use samples::Copied;
 use show::print;
+use std::io;
+use std::io::Read;
 
-fn main() {
-    let mut bytes = [0u8; 65536];
-    let n = io::read_full(0, &mut bytes);
-    recording(&bytes[..n]);
+fn main(rt: HostRuntime) -> io::Result<()> {
+    let mut bytes = Vec::new(rt.alloc());
+    rt.reader().take(65536).read_to_end(&mut bytes)?;
+    recording(&rt, &bytes)
 }
 
-fn recording(s: &[u8]) {
+fn recording(rt: &impl Print, s: &[u8]) -> io::Result<()> {
     if let OrderFound::Is(order) = frame::find_order(s) {
-        items(order, s);
+        items(rt, order, s)?;
     }
+    Ok(())
 }
 
 // One step after the other. Each item has a byte at least, so there are no more steps than bytes.
-fn items(order: Order, s: &[u8]) {
+fn items(rt: &impl Print, order: Order, s: &[u8]) -> io::Result<()> {
     let mut cursor = Cursor::new();
     for _ in 0..s.len() {
         let stepped = cursor.step(order, s);
         let item = stepped.item;
         if let Item::End = item {
-            return;
+            break;
         }
-        chunk(order, s, stepped);
-        let next = stepped.cursor;
-        cursor = next;
+        chunk(rt, order, s, stepped)?;
+        cursor = stepped.cursor;
     }
+    Ok(())
 }
 
 // A line for a chunk that is ready, none for any other item.
-fn chunk(order: Order, s: &[u8], stepped: Stepped) {
+fn chunk(rt: &impl Print, order: Order, s: &[u8], stepped: Stepped) -> io::Result<()> {
     let item = stepped.item;
     if let Item::Chunk {
         place: _,
@@ -48,38 +51,46 @@ fn chunk(order: Order, s: &[u8], stepped: Stepped) {
     } = item
     {
         if let Verdict::Ready(data) = verdict {
-            line(order, s, stepped, data);
+            line(rt, order, s, stepped, data)?;
         }
     }
+    Ok(())
 }
 
 // The frequency is `-` where none is known. Channels are numbered from 0, and the first number that there is not ends
 // them.
-fn line(order: Order, s: &[u8], stepped: Stepped, data: Data) {
-    print(listing::word(b"peak"));
-    print(listing::decimal(data.time));
+fn line(rt: &impl Print, order: Order, s: &[u8], stepped: Stepped, data: Data) -> io::Result<()> {
+    print(rt, listing::word(b"peak"))?;
+    print(rt, listing::decimal(data.time))?;
     let centre = stepped.shown.values.centre;
     if centre.present {
-        print(listing::decimal(centre.value));
+        print(rt, listing::decimal(centre.value))?;
     } else {
-        print(listing::word(b" -"));
+        print(rt, listing::word(b" -"))?;
     }
     for channel in 0..16 {
-        shorts(order, s, stepped, channel);
-        patterns(order, s, stepped, channel);
+        shorts(rt, order, s, stepped, channel)?;
+        patterns(rt, order, s, stepped, channel)?;
     }
-    print(listing::newline());
+    print(rt, listing::newline())
 }
 
 // The largest of the 16-bit numbers of a channel; nothing where it has none.
-fn shorts(order: Order, s: &[u8], stepped: Stepped, channel: usize) {
+fn shorts(
+    rt: &impl Print,
+    order: Order,
+    s: &[u8],
+    stepped: Stepped,
+    channel: usize,
+) -> io::Result<()> {
     let mut out = [0i16; 34816];
     if let Copied::Count(n) = samples::shorts_of(order, s, stepped, channel, &mut out) {
-        largest_short(&out, n);
+        largest_short(rt, &out, n)?;
     }
+    Ok(())
 }
 
-fn largest_short(xs: &[i16], n: usize) {
+fn largest_short(rt: &impl Print, xs: &[i16], n: usize) -> io::Result<()> {
     if 0 < n {
         let mut largest = i16::MIN;
         for i in 0..n {
@@ -89,19 +100,27 @@ fn largest_short(xs: &[i16], n: usize) {
                 }
             }
         }
-        print(listing::short(largest));
+        print(rt, listing::short(largest))?;
     }
+    Ok(())
 }
 
 // The same of a channel of floats, by its pattern. No NaN is the largest.
-fn patterns(order: Order, s: &[u8], stepped: Stepped, channel: usize) {
+fn patterns(
+    rt: &impl Print,
+    order: Order,
+    s: &[u8],
+    stepped: Stepped,
+    channel: usize,
+) -> io::Result<()> {
     let mut out = [0u32; 17408];
     if let Copied::Count(n) = samples::patterns_of(order, s, stepped, channel, &mut out) {
-        largest_pattern(&out, n);
+        largest_pattern(rt, &out, n)?;
     }
+    Ok(())
 }
 
-fn largest_pattern(xs: &[u32], n: usize) {
+fn largest_pattern(rt: &impl Print, xs: &[u32], n: usize) -> io::Result<()> {
     let mut found = false;
     let mut largest = 0;
     for i in 0..n {
@@ -113,8 +132,9 @@ fn largest_pattern(xs: &[u32], n: usize) {
         }
     }
     if found {
-        print(listing::hex_word(largest));
+        print(rt, listing::hex_word(largest))?;
     }
+    Ok(())
 }
 
 // Whether a pattern is a number, and larger than the one found so far, if there is one.

@@ -1,8 +1,13 @@
 // Lists the PXGF stream on standard input, with why bytes were skipped and what each chunk shows.
 #![tactic(auto)]
 
-fn main() {
-    let mut bytes = [0u8; lister::STREAM_ROOM];
-    let n = io::read_full(0, &mut bytes);
-    show::dump(&bytes[..n]);
+use std::io;
+use std::io::Read;
+
+fn main(rt: HostRuntime) -> io::Result<()> {
+    let mut bytes = Vec::new(rt.alloc());
+    rt.reader()
+        .take(lister::STREAM_ROOM as u64)
+        .read_to_end(&mut bytes)?;
+    show::dump(&rt, &bytes)
 }

@@ -4,13 +4,16 @@
 ghost use Rattle.std.specs.Prelude.{◌≡◌, length};
 ghost use Rattle.lister.specs.Listed.{longest};
 
-use libc::STDOUT_FILENO;
 use lister::Listed;
+use std::io;
+use std::io::Read;
 
-fn main() {
-    let mut bytes = [0u8; lister::STREAM_ROOM];
-    let n = io::read_full(0, &mut bytes);
-    list(&bytes[..n]);
+fn main(rt: HostRuntime) -> io::Result<()> {
+    let mut bytes = Vec::new(rt.alloc());
+    rt.reader()
+        .take(lister::STREAM_ROOM as u64)
+        .read_to_end(&mut bytes)?;
+    list(&rt, &bytes)
 }
 
 // Room for the listing of any stream.
@@ -21,9 +24,10 @@ fn room() -> [u8; lister::ROOM]
 }
 
 // Writes the listing to standard output.
-fn list(s: &[u8]) {
+fn list(rt: &impl Print, s: &[u8]) -> io::Result<()> {
     let mut out = room();
     if let Listed::Laid(n) = lister::lay(s, &mut out) {
-        io::write_all(STDOUT_FILENO, &out[..n]);
+        rt.write_all(&out[..n])?;
     }
+    Ok(())
 }

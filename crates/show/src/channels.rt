@@ -8,6 +8,7 @@ use listing::{Label, number};
 use num::Order;
 use reader::Stepped;
 use samples::Copied;
+use std::io;
 
 // As many numbers of a channel as a stream of the most bytes can hold.
 fn short_room() -> [i16; 32768]
@@ -23,11 +24,19 @@ fn pattern_room() -> [u32; 16384]
 }
 
 // The samples of the ready chunk that a step gave.
-pub(crate) fn each(order: Order, s: &[u8], stepped: Stepped, code: u32) {
+pub(crate) fn each(
+    rt: &impl Print,
+    order: Order,
+    s: &[u8],
+    stepped: Stepped,
+    code: u32,
+) -> io::Result<()> {
     if let Shaped::Samples(shape) = body::shape_of(body::kind_of(code)) {
         let group = stepped.shown.values.group;
-        lines(order, s, stepped, channels(shape, group.n), is_float(shape));
+        let n = channels(shape, group.n);
+        lines(rt, order, s, stepped, n, is_float(shape))?;
     }
+    Ok(())
 }
 
 // How many channels there are, where a group has n.
@@ -46,34 +55,58 @@ fn is_float(shape: Shape) -> bool {
 }
 
 // A line for each channel: its number, the count of its numbers, and these.
-fn lines(order: Order, s: &[u8], stepped: Stepped, channels: usize, float: bool) {
+fn lines(
+    rt: &impl Print,
+    order: Order,
+    s: &[u8],
+    stepped: Stepped,
+    channels: usize,
+    float: bool,
+) -> io::Result<()> {
     for c in 0..channels {
         if float {
-            patterns(order, s, stepped, c);
+            patterns(rt, order, s, stepped, c)?;
         } else {
-            shorts(order, s, stepped, c);
+            shorts(rt, order, s, stepped, c)?;
         }
     }
+    Ok(())
 }
 
-fn head(channel: usize, count: usize) -> Line {
+fn head(rt: &impl Print, channel: usize, count: usize) -> io::Result<Line> {
     start(Label::Samples)
-        .with(number(channel))
-        .with(number(count))
+        .with(rt, number(channel))?
+        .with(rt, number(count))
 }
 
 // 16-bit numbers, in decimal.
-fn shorts(order: Order, s: &[u8], stepped: Stepped, channel: usize) {
+fn shorts(
+    rt: &impl Print,
+    order: Order,
+    s: &[u8],
+    stepped: Stepped,
+    channel: usize,
+) -> io::Result<()> {
     let mut out = short_room();
     if let Copied::Count(n) = samples::shorts_of(order, s, stepped, channel, &mut out) {
-        with_shorts(head(channel, n), &out, n).end();
+        let head = head(rt, channel, n)?;
+        with_shorts(rt, head, &out, n)?.end(rt)?;
     }
+    Ok(())
 }
 
 // 32-bit patterns of floats.
-fn patterns(order: Order, s: &[u8], stepped: Stepped, channel: usize) {
+fn patterns(
+    rt: &impl Print,
+    order: Order,
+    s: &[u8],
+    stepped: Stepped,
+    channel: usize,
+) -> io::Result<()> {
     let mut out = pattern_room();
     if let Copied::Count(n) = samples::patterns_of(order, s, stepped, channel, &mut out) {
-        with_patterns(head(channel, n), &out, n).end();
+        let head = head(rt, channel, n)?;
+        with_patterns(rt, head, &out, n)?.end(rt)?;
     }
+    Ok(())
 }

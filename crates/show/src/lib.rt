@@ -1,4 +1,5 @@
-// The dump of a stream, written to standard output: each line, or word of a line, as the crate listing makes it.
+// The dump of a stream, written to standard output: each line, or word of a line, as the crate listing makes it. A call
+// that prints returns the first error that standard output gives, and has then written what came before it.
 #![tactic(auto)]
 
 mod channels;
@@ -9,51 +10,51 @@ mod skip;
 mod values;
 
 use frame::OrderFound;
-use libc::STDOUT_FILENO;
 use listing::Text;
 use num::Order;
 pub use numbers::{print_patterns, print_shorts};
 use reader::Cursor;
+use std::io;
 
 // The first n bytes of s.
-fn write(s: &[u8], n: usize) {
+fn write(rt: &impl Print, s: &[u8], n: usize) -> io::Result<()> {
     if n <= s.len() {
-        io::write_all(STDOUT_FILENO, &s[0..n]);
+        rt.write_all(&s[0..n])?;
     }
+    Ok(())
 }
 
 // Writes a text to standard output.
-pub fn print(t: Text) {
+pub fn print(rt: &impl Print, t: Text) -> io::Result<()> {
     let bytes = t.bytes;
-    write(&bytes, t.len);
+    write(rt, &bytes, t.len)
 }
 
 // Writes the dump of a stream to standard output: its listing, and under an item's line why bytes were skipped or what the
 // chunk shows.
-pub fn dump(s: &[u8]) {
+pub fn dump(rt: &impl Print, s: &[u8]) -> io::Result<()> {
     if lister::MOST < s.len() {
-        print(listing::long_line());
-        return;
+        return print(rt, listing::long_line());
     }
     match frame::find_order(s) {
-        OrderFound::Is(order) => ordered(order, s),
-        OrderFound::Neither => print(listing::none_line()),
+        OrderFound::Is(order) => ordered(rt, order, s),
+        OrderFound::Neither => print(rt, listing::none_line()),
     }
 }
 
 // The first line, a line for each item, and the last line with their number.
-fn ordered(order: Order, s: &[u8]) {
-    print(listing::first_line(order, s.len()));
+fn ordered(rt: &impl Print, order: Order, s: &[u8]) -> io::Result<()> {
+    print(rt, listing::first_line(order, s.len()))?;
     let items = reader::count(order, s);
     let mut cursor = Cursor::new();
     for _ in 0..items {
         let stepped = cursor.step(order, s);
         let item = stepped.item;
-        print(listing::item_line(item));
-        skip::shown(item);
-        chunk::shown(order, s, stepped);
+        print(rt, listing::item_line(item))?;
+        skip::shown(rt, item)?;
+        chunk::shown(rt, order, s, stepped)?;
         let next = stepped.cursor;
         cursor = next;
     }
-    print(listing::last_line(items));
+    print(rt, listing::last_line(items))
 }

@@ -1,6 +1,7 @@
 // A line of the dump, gathered before it is written.
 use listing::words::label;
 use listing::{Label, Text, newline};
+use std::io;
 
 // The first len bytes are gathered. A long line is written in parts.
 #[derive(Clone, Copy)]
@@ -19,22 +20,22 @@ pub(crate) fn empty() -> Line {
 
 // The head of a line.
 pub(crate) fn start(which: Label) -> Line {
-    empty().with(label(which))
+    empty().joined(label(which))
 }
 
 impl Line {
     // A word more. Where there may be no room for it, what is gathered is written first.
-    pub(crate) fn with(self, t: Text) -> Line {
+    pub(crate) fn with(self, rt: &impl Print, t: Text) -> io::Result<Line> {
         if self.len <= 928 {
-            return self.joined(t);
+            return Ok(self.joined(t));
         }
-        self.write();
-        empty().joined(t)
+        self.write(rt)?;
+        Ok(empty().joined(t))
     }
 
     // The end of the line.
-    pub(crate) fn end(self) {
-        self.with(newline()).write();
+    pub(crate) fn end(self, rt: &impl Print) -> io::Result<()> {
+        self.with(rt, newline())?.write(rt)
     }
 
     fn joined(self, t: Text) -> Line {
@@ -54,8 +55,8 @@ impl Line {
         Line { bytes, len }
     }
 
-    fn write(self) {
+    fn write(self, rt: &impl Print) -> io::Result<()> {
         let bytes = self.bytes;
-        crate::write(&bytes, self.len);
+        crate::write(rt, &bytes, self.len)
     }
 }

@@ -3,23 +3,24 @@ use crate::line::start;
 use body::{BandHeld, GroupGains, GroupHertz, GroupPacking, Held, LevelHeld};
 use listing::{Label, Text, decimal, hex_word, number};
 use state::{GainSums, State};
+use std::io;
 
 // The start mark, then each value, in the order of the kinds.
-pub(crate) fn all(state: State) {
-    start(Label::Mark).with(flag(state.mark)).end();
+pub(crate) fn all(rt: &impl Print, state: State) -> io::Result<()> {
+    start(Label::Mark).with(rt, flag(state.mark))?.end(rt)?;
     let values = state.values;
-    held(Label::Packing, values.packing);
-    held(Label::Rate, values.rate);
-    band(values.band);
-    held(Label::GroupBandwidth, values.group_band);
-    held(Label::Frequency, values.centre);
-    level(Label::FullScale, values.full_scale);
-    level(Label::TotalGain, values.total_gain);
-    level(Label::FloatScale, values.float_scale);
-    packing(values.group);
-    hertz(values.frequencies);
-    gains(values.gains);
-    sums(values.sums);
+    held(rt, Label::Packing, values.packing)?;
+    held(rt, Label::Rate, values.rate)?;
+    band(rt, values.band)?;
+    held(rt, Label::GroupBandwidth, values.group_band)?;
+    held(rt, Label::Frequency, values.centre)?;
+    level(rt, Label::FullScale, values.full_scale)?;
+    level(rt, Label::TotalGain, values.total_gain)?;
+    level(rt, Label::FloatScale, values.float_scale)?;
+    packing(rt, values.group)?;
+    hertz(rt, values.frequencies)?;
+    gains(rt, values.gains)?;
+    sums(rt, values.sums)
 }
 
 // 1 or 0.
@@ -27,23 +28,26 @@ fn flag(yes: bool) -> Text {
     if yes { number(1) } else { number(0) }
 }
 
-fn held(which: Label, value: Held) {
+fn held(rt: &impl Print, which: Label, value: Held) -> io::Result<()> {
     if value.present {
-        start(which).with(decimal(value.value)).end();
+        start(which).with(rt, decimal(value.value))?.end(rt)?;
     }
+    Ok(())
 }
 
-fn band(value: BandHeld) {
+fn band(rt: &impl Print, value: BandHeld) -> io::Result<()> {
     if value.present {
-        let line = start(Label::Bandwidth).with(decimal(value.width));
-        line.with(decimal(value.offset)).end();
+        let line = start(Label::Bandwidth).with(rt, decimal(value.width))?;
+        line.with(rt, decimal(value.offset))?.end(rt)?;
     }
+    Ok(())
 }
 
-fn level(which: Label, value: LevelHeld) {
+fn level(rt: &impl Print, which: Label, value: LevelHeld) -> io::Result<()> {
     if value.present {
-        start(which).with(pattern(value.value)).end();
+        start(which).with(rt, pattern(value.value))?.end(rt)?;
     }
+    Ok(())
 }
 
 // A float's pattern. No state that is shown holds a NaN.
@@ -55,61 +59,65 @@ fn wide(x: u32) -> usize {
     x as usize
 }
 
-fn packing(group: GroupPacking) {
+fn packing(rt: &impl Print, group: GroupPacking) -> io::Result<()> {
     let n = group.n;
     if 0 < n {
-        let mut line = start(Label::GroupPacking).with(number(n));
+        let mut line = start(Label::GroupPacking).with(rt, number(n))?;
         line = line
-            .with(flag(group.iq))
-            .with(number(group.increment as usize));
+            .with(rt, flag(group.iq))?
+            .with(rt, number(group.increment as usize))?;
         let offsets = group.offsets;
         for c in 0..16 {
             if c < n {
-                line = line.with(number(wide(offsets[c])));
+                line = line.with(rt, number(wide(offsets[c])))?;
             }
         }
-        line.end();
+        line.end(rt)?;
     }
+    Ok(())
 }
 
-fn hertz(group: GroupHertz) {
+fn hertz(rt: &impl Print, group: GroupHertz) -> io::Result<()> {
     let n = group.n;
     if 0 < n {
-        let mut line = start(Label::GroupFrequencies).with(number(n));
+        let mut line = start(Label::GroupFrequencies).with(rt, number(n))?;
         let values = group.values;
         for c in 0..16 {
             if c < n {
-                line = line.with(decimal(values[c]));
+                line = line.with(rt, decimal(values[c]))?;
             }
         }
-        line.end();
+        line.end(rt)?;
     }
+    Ok(())
 }
 
-fn gains(group: GroupGains) {
+fn gains(rt: &impl Print, group: GroupGains) -> io::Result<()> {
     let n = group.n;
     if 0 < n {
-        let mut line = start(Label::GroupGains).with(number(n));
+        let mut line = start(Label::GroupGains).with(rt, number(n))?;
         let values = group.values;
         for c in 0..16 {
             if c < n {
-                line = line.with(pattern(values[c]));
+                line = line.with(rt, pattern(values[c]))?;
             }
         }
-        line.end();
+        line.end(rt)?;
     }
+    Ok(())
 }
 
 // A line for each channel that has a sum.
-fn sums(sums: GainSums) {
+fn sums(rt: &impl Print, sums: GainSums) -> io::Result<()> {
     let present = sums.present;
     let values = sums.values;
     for c in 0..16 {
         if present[c] {
             start(Label::Sum)
-                .with(number(c))
-                .with(pattern(values[c]))
-                .end();
+                .with(rt, number(c))?
+                .with(rt, pattern(values[c]))?
+                .end(rt)?;
         }
     }
+    Ok(())
 }

@@ -2,22 +2,36 @@
 // of strings, then for each its length and its bytes; both numbers take four bytes, the lowest first.
 #![tactic(auto)]
 
-use libc::STDOUT_FILENO;
 use num::Order;
+use std::io;
+use std::io::Read;
+
+// Reads until buf is full or the input ends; how many bytes came.
+fn filled(input: &mut impl Read, buf: &mut [u8]) -> io::Result<usize> {
+    let mut done = 0;
+    while done < buf.len() {
+        let more = input.read(&mut buf[done..])?;
+        if more == 0 {
+            break;
+        }
+        done += more;
+    }
+    Ok(done)
+}
 
 // The next number, or 0 at the end.
-fn next() -> usize {
+fn next(input: &mut impl Read) -> io::Result<usize> {
     let mut bytes = [0u8; 4];
-    io::read_full(0, &mut bytes);
-    num::u32_of(Order::Little, bytes) as usize
+    filled(input, &mut bytes)?;
+    Ok(num::u32_of(Order::Little, bytes) as usize)
 }
 
 // The next string, of so many bytes, into the front of buf; how many came.
-fn taken(buf: &mut [u8], size: usize) -> usize {
+fn taken(input: &mut impl Read, buf: &mut [u8], size: usize) -> io::Result<usize> {
     if buf.len() < size {
-        return 0;
+        return Ok(0);
     }
-    io::read_full(0, &mut buf[0..size])
+    filled(input, &mut buf[0..size])
 }
 
 // The digit of the string at the front of buf; a question mark where buf does not hold it all.
@@ -36,44 +50,47 @@ fn digit(buf: &[u8], came: usize, size: usize) -> u8 {
 }
 
 // The verdict on the next string.
-fn verdict(buf: &mut [u8; 1024]) -> u8 {
-    let size = next();
-    let came = taken(buf, size);
-    digit(buf, came, size)
+fn verdict(input: &mut impl Read, buf: &mut [u8]) -> io::Result<u8> {
+    let size = next(input)?;
+    let came = taken(input, buf, size)?;
+    Ok(digit(buf, came, size))
 }
 
 // A digit of the answer. They are gathered, and written when there are 4096.
-fn gathered(digits: &mut [u8; 4096], at: usize, digit: u8) -> usize {
+fn gathered(rt: &impl Print, digits: &mut [u8; 4096], at: usize, digit: u8) -> io::Result<usize> {
     if 4095 < at {
-        return 0;
+        return Ok(0);
     }
     digits[at] = digit;
     if at == 4095 {
-        io::write_all(STDOUT_FILENO, digits);
-        return 0;
+        rt.write_all(digits)?;
+        return Ok(0);
     }
-    at + 1
+    Ok(at + 1)
 }
 
 // The first of what was gathered.
-fn written(digits: &[u8; 4096], at: usize) {
-    first(digits, at);
-}
-
-fn first(digits: &[u8], at: usize) {
+fn first(rt: &impl Print, digits: &[u8], at: usize) -> io::Result<()> {
     if at <= digits.len() {
-        io::write_all(STDOUT_FILENO, &digits[0..at]);
+        rt.write_all(&digits[0..at])?;
     }
+    Ok(())
 }
 
-fn main() {
+// All strings, one after the other.
+fn judged(rt: &impl Print, input: &mut impl Read) -> io::Result<()> {
     let mut buf = [0u8; 1024];
     let mut digits = [0u8; 4096];
     let mut at = 0;
-    let count = next();
+    let count = next(input)?;
     for _ in 0..count {
-        at = gathered(&mut digits, at, verdict(&mut buf));
+        let digit = verdict(input, &mut buf)?;
+        at = gathered(rt, &mut digits, at, digit)?;
     }
-    written(&digits, at);
-    io::write_all(STDOUT_FILENO, b"\n");
+    first(rt, &digits, at)?;
+    rt.write_all(b"\n")
+}
+
+fn main(rt: HostRuntime) -> io::Result<()> {
+    judged(&rt, &mut rt.reader())
 }

@@ -1,5 +1,5 @@
 // Lines of the trials, and digests.
-use libc::STDOUT_FILENO;
+use std::io;
 
 // Above 2^32, so that no two numbers of 32 bits fall together, and so small that 31 times it fits into 64 bits.
 const PRIME: u64 = 288230376151711717;
@@ -15,8 +15,6 @@ pub(crate) fn refused(digest: u64, number: u64) -> u64 {
 }
 
 // A line of two words and a digest.
-pub(crate) fn line(head: &[u8], digest: u64) {
-    io::write_all(STDOUT_FILENO, head);
-    io::print_decimal(STDOUT_FILENO, digest);
-    io::write_all(STDOUT_FILENO, b"\n");
+pub(crate) fn line(rt: &impl Print, head: &str, digest: u64) -> io::Result<()> {
+    println!(rt; "{head} {digest}")
 }

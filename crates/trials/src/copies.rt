@@ -4,10 +4,11 @@ use crate::answer::{more, refused};
 use num::Order;
 use reader::Cursor;
 use samples::Copied;
+use std::io;
 
-pub(crate) fn both(s: &[u8]) {
-    crate::answer::line(b"copies big ", stream(Order::Big, s));
-    crate::answer::line(b"copies little ", stream(Order::Little, s));
+pub(crate) fn both(rt: &impl Print, s: &[u8]) -> io::Result<()> {
+    crate::answer::line(rt, "copies big", stream(Order::Big, s))?;
+    crate::answer::line(rt, "copies little", stream(Order::Little, s))
 }
 
 // The digest of all copies, at the cursor before each step.

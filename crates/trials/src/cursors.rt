@@ -5,10 +5,11 @@ use effect::Verdict;
 use num::Order;
 use reader::{Cause, Cursor, Item};
 use state::State;
+use std::io;
 
-pub(crate) fn both(s: &[u8]) {
-    crate::answer::line(b"cursors big ", stream(Order::Big, s));
-    crate::answer::line(b"cursors little ", stream(Order::Little, s));
+pub(crate) fn both(rt: &impl Print, s: &[u8]) -> io::Result<()> {
+    crate::answer::line(rt, "cursors big", stream(Order::Big, s))?;
+    crate::answer::line(rt, "cursors little", stream(Order::Little, s))
 }
 
 // The digest of every answer: each state in step, then searching.

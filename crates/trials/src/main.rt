@@ -14,63 +14,72 @@ mod values;
 mod writes;
 
 use num::Order;
+use std::io::Read;
+use std::{fs, io};
+
+// Reads until buf is full or the file ends; how many bytes came.
+fn filled(file: &mut impl Read, buf: &mut [u8]) -> io::Result<usize> {
+    let mut done = 0;
+    while done < buf.len() {
+        let more = file.read(&mut buf[done..])?;
+        if more == 0 {
+            break;
+        }
+        done += more;
+    }
+    Ok(done)
+}
 
 // The next number of the file, or 0 at its end.
-fn next(fd: i32) -> usize {
+fn next(file: &mut impl Read) -> io::Result<usize> {
     let mut bytes = [0u8; 4];
-    io::read_full(fd, &mut bytes);
-    num::u32_of(Order::Little, bytes) as usize
+    filled(file, &mut bytes)?;
+    Ok(num::u32_of(Order::Little, bytes) as usize)
 }
 
 // All trials of one stream.
-fn trial(s: &[u8]) {
-    show::dump(s);
-    check::both(s);
-    rows::both(s);
-    copies::both(s);
-    writes::both(s);
-    values::both(s);
-    cursors::both(s);
+fn trial(rt: &impl Print, s: &[u8]) -> io::Result<()> {
+    show::dump(rt, s)?;
+    check::both(rt, s)?;
+    rows::both(rt, s)?;
+    copies::both(rt, s)?;
+    writes::both(rt, s)?;
+    values::both(rt, s)?;
+    cursors::both(rt, s)
 }
 
 // The next stream into the front of buf; how many bytes came.
-fn taken(fd: i32, buf: &mut [u8; 65537]) -> usize {
-    read(fd, buf, next(fd))
-}
-
-fn read(fd: i32, buf: &mut [u8], size: usize) -> usize {
+fn taken(file: &mut impl Read, buf: &mut [u8]) -> io::Result<usize> {
+    let size = next(file)?;
     if buf.len() < size {
-        return 0;
+        return Ok(0);
     }
-    io::read_full(fd, &mut buf[0..size])
+    filled(file, &mut buf[0..size])
 }
 
 // The trials of the stream at the front of buf.
-fn front(buf: &[u8; 65537], n: usize) {
-    tried(buf, n);
-}
-
-fn tried(buf: &[u8], n: usize) {
+fn tried(rt: &impl Print, buf: &[u8], n: usize) -> io::Result<()> {
     if n <= buf.len() {
-        trial(&buf[0..n]);
+        trial(rt, &buf[0..n])?;
     }
+    Ok(())
 }
 
 // The streams one after the other.
-fn streams(fd: i32) {
+fn streams(rt: &impl Print, file: &mut impl Read) -> io::Result<()> {
     let mut buf = [0u8; lister::STREAM_ROOM];
-    let count = next(fd);
+    let count = next(file)?;
     for _ in 0..count {
-        let n = taken(fd, &mut buf);
-        front(&buf, n);
+        let n = taken(file, &mut buf)?;
+        tried(rt, &buf, n)?;
     }
+    Ok(())
 }
 
-fn main() {
-    let fd = os::open_read(b"streams");
-    if fd < 0 {
-        os::fail(b"streams");
-        return;
+// Where the file cannot be opened, all that is written is why, to standard error.
+fn main(rt: HostRuntime) -> io::Result<()> {
+    match fs::open(&rt, "streams") {
+        Ok(mut file) => streams(&rt, &mut file),
+        Err(error) => eprintln!(rt; "streams: {error}"),
     }
-    streams(fd);
 }

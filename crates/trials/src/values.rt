@@ -4,13 +4,14 @@ use crate::writes::{Run, told};
 use body::{Checked, Kind, LevelRead, TextRead};
 use num::Order;
 use reader::{Cursor, Item};
+use std::io;
 use writer::Written;
 
 // Read and written in one order, and read in one and written in the other.
-pub(crate) fn both(s: &[u8]) {
-    crate::answer::line(b"values big ", stream(Order::Big, Order::Big, s));
-    crate::answer::line(b"values little ", stream(Order::Little, Order::Little, s));
-    crate::answer::line(b"values turned ", stream(Order::Big, Order::Little, s));
+pub(crate) fn both(rt: &impl Print, s: &[u8]) -> io::Result<()> {
+    crate::answer::line(rt, "values big", stream(Order::Big, Order::Big, s))?;
+    crate::answer::line(rt, "values little", stream(Order::Little, Order::Little, s))?;
+    crate::answer::line(rt, "values turned", stream(Order::Big, Order::Little, s))
 }
 
 // The digest of every answer, and of the slice at the end.

@@ -3,6 +3,7 @@
 use crate::answer::{more, refused};
 use num::Order;
 use reader::{Cursor, Item};
+use std::io;
 use writer::Written;
 
 // Where the next record goes, and the digest so far.
@@ -13,10 +14,10 @@ pub(crate) struct Run {
 }
 
 // Read and written in one order, and read in one and written in the other.
-pub(crate) fn both(s: &[u8]) {
-    crate::answer::line(b"writes big ", stream(Order::Big, Order::Big, s));
-    crate::answer::line(b"writes little ", stream(Order::Little, Order::Little, s));
-    crate::answer::line(b"writes turned ", stream(Order::Big, Order::Little, s));
+pub(crate) fn both(rt: &impl Print, s: &[u8]) -> io::Result<()> {
+    crate::answer::line(rt, "writes big", stream(Order::Big, Order::Big, s))?;
+    crate::answer::line(rt, "writes little", stream(Order::Little, Order::Little, s))?;
+    crate::answer::line(rt, "writes turned", stream(Order::Big, Order::Little, s))
 }
 
 // The digest of every answer, and of the slice at the end.
