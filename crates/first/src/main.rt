@@ -7,12 +7,11 @@ use reader::{Cursor, Item, Stepped};
 use samples::Copied;
 use show::print;
 use std::io;
-use std::io::Read;
 
 fn main(rt: HostRuntime) -> io::Result<()> {
-    let mut bytes = Vec::new(rt.alloc());
-    rt.reader().take(65536).read_to_end(&mut bytes)?;
-    recording(&rt, &bytes)
+    let mut bytes = [0u8; 65536];
+    let n = input::filled(&mut rt.reader(), &mut bytes)?;
+    recording(&rt, &bytes[..n])
 }
 
 fn recording(rt: &impl Print, s: &[u8]) -> io::Result<()> {

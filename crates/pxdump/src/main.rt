@@ -2,12 +2,9 @@
 #![tactic(auto)]
 
 use std::io;
-use std::io::Read;
 
 fn main(rt: HostRuntime) -> io::Result<()> {
-    let mut bytes = Vec::new(rt.alloc());
-    rt.reader()
-        .take(lister::STREAM_ROOM as u64)
-        .read_to_end(&mut bytes)?;
-    show::dump(&rt, &bytes)
+    let mut bytes = [0u8; lister::STREAM_ROOM];
+    let n = input::filled(&mut rt.reader(), &mut bytes)?;
+    show::dump(&rt, &bytes[..n])
 }

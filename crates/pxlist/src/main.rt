@@ -6,14 +6,11 @@ ghost use Rattle.lister.specs.Listed.{longest};
 
 use lister::Listed;
 use std::io;
-use std::io::Read;
 
 fn main(rt: HostRuntime) -> io::Result<()> {
-    let mut bytes = Vec::new(rt.alloc());
-    rt.reader()
-        .take(lister::STREAM_ROOM as u64)
-        .read_to_end(&mut bytes)?;
-    list(&rt, &bytes)
+    let mut bytes = [0u8; lister::STREAM_ROOM];
+    let n = input::filled(&mut rt.reader(), &mut bytes)?;
+    list(&rt, &bytes[..n])
 }
 
 // Room for the listing of any stream.

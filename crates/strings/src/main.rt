@@ -6,23 +6,10 @@ use num::Order;
 use std::io;
 use std::io::Read;
 
-// Reads until buf is full or the input ends; how many bytes came.
-fn filled(input: &mut impl Read, buf: &mut [u8]) -> io::Result<usize> {
-    let mut done = 0;
-    while done < buf.len() {
-        let more = input.read(&mut buf[done..])?;
-        if more == 0 {
-            break;
-        }
-        done += more;
-    }
-    Ok(done)
-}
-
 // The next number, or 0 at the end.
 fn next(input: &mut impl Read) -> io::Result<usize> {
     let mut bytes = [0u8; 4];
-    filled(input, &mut bytes)?;
+    input::filled(input, &mut bytes)?;
     Ok(num::u32_of(Order::Little, bytes) as usize)
 }
 
@@ -31,7 +18,7 @@ fn taken(input: &mut impl Read, buf: &mut [u8], size: usize) -> io::Result<usize
     if buf.len() < size {
         return Ok(0);
     }
-    filled(input, &mut buf[0..size])
+    input::filled(input, &mut buf[0..size])
 }
 
 // The digit of the string at the front of buf; a question mark where buf does not hold it all.

@@ -17,23 +17,10 @@ use num::Order;
 use std::io::Read;
 use std::{fs, io};
 
-// Reads until buf is full or the file ends; how many bytes came.
-fn filled(file: &mut impl Read, buf: &mut [u8]) -> io::Result<usize> {
-    let mut done = 0;
-    while done < buf.len() {
-        let more = file.read(&mut buf[done..])?;
-        if more == 0 {
-            break;
-        }
-        done += more;
-    }
-    Ok(done)
-}
-
 // The next number of the file, or 0 at its end.
 fn next(file: &mut impl Read) -> io::Result<usize> {
     let mut bytes = [0u8; 4];
-    filled(file, &mut bytes)?;
+    input::filled(file, &mut bytes)?;
     Ok(num::u32_of(Order::Little, bytes) as usize)
 }
 
@@ -54,7 +41,7 @@ fn taken(file: &mut impl Read, buf: &mut [u8]) -> io::Result<usize> {
     if buf.len() < size {
         return Ok(0);
     }
-    filled(file, &mut buf[0..size])
+    input::filled(file, &mut buf[0..size])
 }
 
 // The trials of the stream at the front of buf.
