@@ -4,6 +4,7 @@ use Prim.Native.Nat.{ℕ, ◌^◌, ◌<◌}
 use mathlib.Core.List.{List, [], ◌++◌}
 use native.Mathlib.Omega.{arith}
 use borrow.Fn.Kinds.{GoodsP}
+use Rattle.std.specs.Prelude.{Result}
 use Rattle.num.specs.declared.Order.{Order}
 use Rattle.lay.specs.Numbers.{int32, int64}
 use Rattle.body.specs.Kind.{code_of}
@@ -12,7 +13,7 @@ use Rattle.body.specs.declared.kinds.Kind.TheVariants as K
 use Rattle.body.specs.declared.levels.Level.{Level}
 use Rattle.body.specs.declared.levels.Level.TheVariants.{FullScale, TotalGain, FloatFullScale}
 use Rattle.writer.specs.Data.{short_body, pattern_body}
-use Rattle.writer.specs.declared.Written.{Written}
+use Rattle.writer.specs.declared.Unwritten.{Unwritten}
 use Rattle.writer.proofs.write.Kinds as writeKinds
 use Rattle.writer.proofs.write.Reads as writeReads
 use Rattle.writer.proofs.shorts.ssnc.Kinds as ssncKinds
@@ -92,7 +93,7 @@ pub data WriteCall : Type 0 where
   gfnc : Call 2 gfncKinds.ps gfncKinds.r gfncReads.Post → WriteCall
 
 -- what a call was given and gave, its record by type and body
-abbrev writing : Order → ℕ → List ℕ → List ℕ → ℕ → Written → List ℕ → Writing
+abbrev writing : Order → ℕ → List ℕ → List ℕ → ℕ → Result ℕ Unwritten → List ℕ → Writing
 writing o code body d place a l = record { order = o; wrote = record { code = code; body = body }; out = d; place = place; result = a; left = l }
 
 -- the order first, then the type and the body that the arguments make, the slice, the place, the answer, and the slice at the end

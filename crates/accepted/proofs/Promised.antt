@@ -23,7 +23,7 @@ doings writes k = doing (writes k)
 pub calls-run : (n : ℕ) (o : Order) (d : List ℕ) (p : ℕ) (writes : ℕ → WriteCall) → InTurn n o d p (doings writes) → WriteRun n o d p (doings writes)
 calls-run n o d p writes t = record { turns = t; writes = λ k h. does (writes k) }
 
--- n calls in turn, from place 0 of a slice that holds d on, all answered Next; and m steps from a new cursor over the bytes that they wrote
+-- n calls in turn, from place 0 of a slice that holds d on, all answered Ok; and m steps from a new cursor over the bytes that they wrote
 module _ (o : Order) (d : List ℕ) (n : ℕ) (writes : ℕ → WriteCall) (t : InTurn n o d 0 (doings writes)) (a : (k : ℕ) → k < n → Accepted (doing (writes k)))
     (start : NewCall) (m : ℕ) (calls : ℕ → StepCall) (r : Run m o (bytes_written n d (doings writes)) start.result calls) where
   -- Step k gives what call k wrote: a chunk at the place of that call, of its record's type and size, and body_of gives its body.
@@ -36,7 +36,7 @@ module _ (o : Order) (d : List ℕ) (n : ℕ) (writes : ℕ → WriteCall) (t : 
   calls-end = written-end o d n (doings writes) (calls-run n o d 0 writes t) a start m calls r
 
 -- A stream that steps read as chunks, none refused with 11 to 15, and then End, is written by calls in turn, given those chunks' records,
--- into any slice with room for it: each call is answered Next, and the bytes written are the stream.
+-- into any slice with room for it: each call is answered Ok, and the bytes written are the stream.
 pub calls-write-back : (o : Order) (s : List ℕ) (n : ℕ) (start : NewCall) (calls : ℕ → StepCall) → ReadSound o s n start calls → Bytes s →
     (d : List ℕ) → length s ≤ length d → (writes : ℕ → WriteCall) → InTurn n o d 0 (doings writes) → WritesRead n s calls (doings writes) → WroteStream n d s (doings writes)
 calls-write-back o s n start calls r g d f writes t same = read-written-back o s n start calls r g d f (doings writes) (calls-run n o d 0 writes t) same

@@ -4,13 +4,13 @@ use mathlib.Core.Path.{◌≡◌, refl, ap, sym, ◌∙◌}
 use mathlib.Core.List.{List, [], ◌∷◌}
 use native.Mathlib.Omega.{arith}
 use lib.ListN.{length}
+use Rattle.std.specs.Prelude.{Ok}
 use Rattle.num.specs.Answer.{Answer, gives, reply_with}
 use Rattle.num.specs.declared.Order.{Order}
 use Rattle.lay.specs.Splice.{splice}
 use Rattle.frame.specs.Frames.{chunk_bytes}
 use Rattle.writer.specs.Write.{write_of, written_out, written_said}
 use Rattle.writer.specs.Records.{Record, Each, Typed, write_all}
-use Rattle.writer.specs.declared.Written.TheVariants.{Next}
 use Rattle.writer.proofs.Theorems.{written-told}
 use Rattle.accepted.specs.Writing.{Writing, Writes, Accepted, place_at, held_at, WriteOn, WriteRun}
 use Rattle.accepted.proofs.Accepted.{first-next}
@@ -90,4 +90,4 @@ all-accepted (suc n) o d p calls m r e k h =
     let l : w.left ≡ splice d p (chunk_bytes o w.wrote.code w.wrote.body) = rw b.1 at q.1 in
     let j : place_at p calls 1 ≡ b.0 = ap (λ (x : Answer ℕ). (reply_with w.place x).value) s in
     let go = all-accepted n o w.left (place_at p calls 1) (rest calls) m (run-rest n o d p calls r) (rw (j, l) b.2) in
-    accepted-cons n calls (b.0, written-told w.result (Next b.0) s) go k h
+    accepted-cons n calls (b.0, written-told w.result (Ok b.0) s) go k h

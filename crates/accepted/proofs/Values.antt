@@ -95,7 +95,7 @@ made-of (gfnc a) h = record { kind = K.GFNC; values = record { time = a.args.1.0
 back-by : (o p : Order) (r : Record) (k : Kind) (v : Made k) (body : List ℕ) → p ≡ o → r ≡ record_of k p v → body ≡ r.body → Fitting k v → may_write p r.code r.body ≡ gives tt → Back k o body v
 back-by o p r k v body e q b f g = rw (b, q, e) (values-back o k v f (rw (q, e) at g))
 
--- n calls in turn, from place 0 of a slice that holds d on, all answered Next; and m steps from a new cursor over the bytes that they wrote
+-- n calls in turn, from place 0 of a slice that holds d on, all answered Ok; and m steps from a new cursor over the bytes that they wrote
 module _ (o : Order) (d : List ℕ) (n : ℕ) (writes : ℕ → WriteCall) (t : InTurn n o d 0 (doings writes)) (a : (k : ℕ) → k < n → Accepted (doing (writes k)))
     (start : NewCall) (m : ℕ) (calls : ℕ → StepCall) (r : Run m o (bytes_written n d (doings writes)) start.result calls) where
   -- The body of the chunk that step k gives is read back as the values that call k was given: what reading its kind gives, the bytes of a text,

@@ -45,7 +45,7 @@ module _ (o : Order) (s : List ℕ) where
   step-last zero p writes c h = h
   step-last (suc n) p writes c h = step-last n (behind p (writes 0).wrote) (rest writes) (step_of o s c).cursor h.1
 
--- ---- n calls that write, one after the other from place 0 on, each answered Next
+-- ---- n calls that write, one after the other from place 0 on, each answered Ok
 
 module _ (o : Order) (d : List ℕ) (n : ℕ) (writes : ℕ → Writing) (w : WriteRun n o d 0 writes) (a : (k : ℕ) → k < n → Accepted (writes k)) where
   steps : StepsRead o (bytes_written n d writes) new_cursor 0 (records_to n writes)

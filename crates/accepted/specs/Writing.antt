@@ -1,11 +1,10 @@
 -- A call that writes a record, and a run of such calls, each going on where the one before ended.
-use Rattle.std.specs.Prelude.{ℕ, zero, suc, ◌<◌, ◌≡◌, List, length, take}
+use Rattle.std.specs.Prelude.{ℕ, zero, suc, ◌<◌, ◌≡◌, List, length, take, Result, Ok}
 use Rattle.num.specs.declared.Order.{Order}
 use Rattle.lay.specs.Splice.{splice}
 use Rattle.writer.specs.Records.{Record, Typed}
 use Rattle.writer.specs.Write.{write_of, written_out, written_reply, written_said}
-use Rattle.writer.specs.declared.Written.{Written}
-use Rattle.writer.specs.declared.Written.TheVariants.{Next}
+use Rattle.writer.specs.declared.Unwritten.{Unwritten}
 
 -- what a call was given, the record that its arguments make, its answer, and what its slice held before and after
 pub record Writing : Type 0 where
@@ -13,7 +12,7 @@ pub record Writing : Type 0 where
   pub wrote : Record
   pub out : List ℕ
   pub place : ℕ
-  pub result : Written
+  pub result : Result ℕ Unwritten
   pub left : List ℕ
 
 -- the answer and the slice are those of the rules for this record at this place, and its type is a number of 32 bits
@@ -25,7 +24,7 @@ pub record Writes (w : Writing) : Type 0 where
 
 -- the call was answered with a next place
 abbrev pub Accepted : Writing → Type 0
-Accepted w = (next : ℕ) × (w.result ≡ Next next)
+Accepted w = (next : ℕ) × (w.result ≡ Ok next)
 
 -- ---- a run of calls, by their number
 

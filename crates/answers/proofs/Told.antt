@@ -1,9 +1,9 @@
 -- Where an answer is a refusal, what is said of it is the text of its number.
-use Prim.Native.Nat.{ℕ}
-use mathlib.Core.Path.{◌≡◌, refl, ap, sym, ◌∙◌}
-use mathlib.Core.List.{List, [], ◌∷◌}
+use mathlib.Core.Path.{◌≡◌, refl}
+use mathlib.Core.List.{[], ◌∷◌}
 use denote.Enum.Declared.{tag_of}
 use types.Run.{OneOf, miss}
+use Rattle.std.specs.Prelude.{Err}
 use Rattle.num.specs.Answer.{refusal}
 use Rattle.effect.specs.Says.{verdict_said, says_number}
 use Rattle.effect.specs.declared.Verdict.{Verdict}
@@ -14,25 +14,13 @@ use Rattle.reader.specs.declared.Item.{Item}
 use Rattle.reader.specs.declared.Item.TheVariants as items
 use Rattle.reader.specs.contracts.Item as item
 use Rattle.writer.specs.Write.{written_said}
-use Rattle.writer.specs.declared.Written.{Written}
-use Rattle.writer.specs.declared.Written.TheVariants as writes
-use Rattle.writer.specs.contracts.Written as written
+use Rattle.writer.specs.declared.Unwritten.{Unwritten}
 use Rattle.samples.specs.Copy.{copied_said}
-use Rattle.samples.specs.declared.Copied.{Copied}
-use Rattle.samples.specs.declared.Copied.TheVariants as copies
-use Rattle.samples.specs.contracts.Copied as copied
+use Rattle.samples.specs.declared.Uncopied.{Uncopied}
 use Rattle.filecheck.specs.File.{file_said, file_number}
-use Rattle.filecheck.specs.declared.FileChecked.{FileChecked}
-use Rattle.filecheck.specs.declared.FileChecked.TheVariants as files
-use Rattle.filecheck.specs.contracts.FileChecked as file
-use Rattle.listing.specs.Text.{text_of}
-use Rattle.listing.specs.declared.string.Text.{Text}
+use Rattle.filecheck.specs.declared.BadFile.{BadFile}
 use Rattle.answers.specs.Refusals.{refusal_text}
 use Rattle.answers.specs.Texts.{answer_text, says_text, item_text, written_text, copied_text, file_text}
-
--- the text of a number, the number being that of an answer, is the text of the answer
-pub by-number : {r : Text} {n m : ℕ} {l : List ℕ} → r ≡ text_of (refusal_text n) → n ≡ m → l ≡ refusal_text m → r ≡ text_of l
-by-number p e q = p ∙ ap (λ (k : ℕ). text_of (refusal_text k)) e ∙ ap text_of (sym q)
 
 pub verdict-refused : (v : Verdict) → OneOf (2 ∷ 3 ∷ 4 ∷ []) (tag_of verdict.the_type v) → says_text (verdict_said v) ≡ refusal_text (says_number (verdict_said v))
 verdict-refused verdicts.Good e = absurd (miss (2 ∷ 3 ∷ 4 ∷ []) 0 tt e)
@@ -50,24 +38,11 @@ item-refused (items.Skipped place length cause) e = absurd (miss (0 ∷ 1 ∷ []
 item-refused (items.Unfinished place length) e = absurd (miss (0 ∷ 1 ∷ []) 4 tt e)
 item-refused (items.Chunk place code size v) e = absurd (miss (0 ∷ 1 ∷ []) 5 tt e)
 
-pub written-refused : (w : Written) → OneOf (1 ∷ 2 ∷ 3 ∷ 4 ∷ []) (tag_of written.the_type w) → answer_text written_text (written_said w) ≡ refusal_text (refusal (written_said w))
-written-refused (writes.Next place) e = absurd (miss (1 ∷ 2 ∷ 3 ∷ 4 ∷ []) 0 tt e)
-written-refused writes.PastEnd e = refl
-written-refused writes.BadSize e = refl
-written-refused (writes.Malformed f) e = refl
-written-refused writes.NoRoom e = refl
+pub written-refused : (e : Unwritten) → answer_text written_text (written_said (Err e)) ≡ refusal_text (refusal (written_said (Err e)))
+written-refused e = refl
 
-pub copied-refused : (c : Copied) → OneOf (1 ∷ 2 ∷ 3 ∷ 4 ∷ 5 ∷ []) (tag_of copied.the_type c) → answer_text copied_text (copied_said c) ≡ refusal_text (refusal (copied_said c))
-copied-refused (copies.Count n) e = absurd (miss (1 ∷ 2 ∷ 3 ∷ 4 ∷ 5 ∷ []) 0 tt e)
-copied-refused copies.PastEnd e = refl
-copied-refused copies.BadState e = refl
-copied-refused copies.NotReady e = refl
-copied-refused copies.NoChannel e = refl
-copied-refused copies.TooShort e = refl
+pub copied-refused : (e : Uncopied) → answer_text copied_text (copied_said (Err e)) ≡ refusal_text (refusal (copied_said (Err e)))
+copied-refused e = refl
 
-pub file-refused : (f : FileChecked) → OneOf (1 ∷ 2 ∷ 3 ∷ 4 ∷ []) (tag_of file.the_type f) → file_text (file_said f) ≡ refusal_text (file_number (file_said f))
-file-refused (files.Good items) e = absurd (miss (1 ∷ 2 ∷ 3 ∷ 4 ∷ []) 0 tt e)
-file-refused files.NoHeader e = refl
-file-refused (files.HeaderNotEnded place) e = refl
-file-refused (files.SecondHeader place) e = refl
-file-refused (files.NotAChunk place) e = refl
+pub file-refused : (e : BadFile) → file_text (file_said (Err e)) ≡ refusal_text (file_number (file_said (Err e)))
+file-refused e = refl

@@ -4,6 +4,7 @@
 
 ghost use Rattle.std.specs.Prelude.{◌≡◌};
 ghost use Rattle.effect.specs.Says.{lack_number, verdict_said};
+ghost use Rattle.num.specs.Answer.{answered};
 ghost use Rattle.body.specs.Fault.{fault_number};
 ghost use Rattle.filecheck.specs.File.{file_said};
 ghost use Rattle.frame.specs.Place.{order_said};
@@ -16,13 +17,13 @@ ghost use Rattle.answers.specs.Texts.{answer_text, order_text, says_text, cause_
 
 use body::Fault;
 use effect::{Lack, Verdict};
-use filecheck::FileChecked;
-use frame::OrderFound;
+use filecheck::BadFile;
+use frame::NoSyncWord;
 use listing::{Text, word};
-use num::Order;
+use num::{Numbered, Order};
 use reader::{Cause, Item};
-use samples::Copied;
-use writer::Written;
+use samples::Uncopied;
+use writer::Unwritten;
 
 // The text of a number of refusal; no byte for a number that no refusal has.
 #[tactic(auto, unfolding(crate::specs::Refusals::refusal_text, crate::specs::Refusals::rows, crate::specs::Refusals::text_in))]
@@ -55,16 +56,26 @@ pub fn refusal(number: u32) -> Text
     }
 }
 
+// A call for each type of answer, as docs/CALLS.md has them: what they share is `refusal` and `text_for`.
+
+// What an answer says: these words where something is given, and else the text of the refusal's number.
+fn text_for<E: Numbered>(answer: Result<usize, E>, given: &[u8]) -> Text
+    ensures { result ≡ text_of (answer_text (λ n. given.now) (answered E.number_of answer)) }
+{
+    match answer {
+        Ok(_) => word(given),
+        Err(e) => refusal(e.number()),
+    }
+}
+
 // What finding the order of a stream answered: which order, or that there is none.
-pub fn order(found: OrderFound) -> Text
+pub fn order(found: Result<Order, NoSyncWord>) -> Text
     ensures { result ≡ text_of (answer_text order_text (order_said found)) }
 {
     match found {
-        OrderFound::Is(order) => match order {
-            Order::Big => word(b"big order"),
-            Order::Little => word(b"little order"),
-        },
-        OrderFound::Neither => refusal(found.number()),
+        Ok(Order::Big) => word(b"big order"),
+        Ok(Order::Little) => word(b"little order"),
+        Err(none) => refusal(none.number()),
     }
 }
 
@@ -90,7 +101,7 @@ pub fn verdict(verdict: Verdict) -> Text
         Verdict::Good => word(b"well-formed"),
         Verdict::Unknown => word(b"unknown type"),
         Verdict::Ready(_) => word(b"ready data"),
-        Verdict::Malformed(_) | Verdict::NotCovered | Verdict::Waits(_, _) => refusal(
+        Verdict::Malformed(_) | Verdict::NotCovered | Verdict::Waits(..) => refusal(
             verdict.number(),
         ),
     }
@@ -115,50 +126,29 @@ pub fn item(item: Item) -> Text
     match item {
         Item::PastEnd | Item::BadState => refusal(item.number()),
         Item::End => word(b"end of the stream"),
-        Item::Skipped {
-            place: _,
-            length: _,
-            cause: why,
-        } => cause(why),
-        Item::Unfinished {
-            place: _,
-            length: _,
-        } => word(b"unfinished chunk at the end"),
-        Item::Chunk {
-            place: _,
-            code: _,
-            size: _,
-            verdict: said,
-        } => verdict(said),
+        Item::Skipped { cause: why, .. } => cause(why),
+        Item::Unfinished { .. } => word(b"unfinished chunk at the end"),
+        Item::Chunk { verdict: said, .. } => verdict(said),
     }
 }
 
 // What writing a record answered: that it was written, or why not.
-pub fn written(written: Written) -> Text
+pub fn written(written: Result<usize, Unwritten>) -> Text
     ensures { result ≡ text_of (answer_text written_text (written_said written)) }
 {
-    match written {
-        Written::Next(_) => word(b"written"),
-        _ => refusal(written.number()),
-    }
+    text_for(written, b"written")
 }
 
 // What copying samples answered: that they were copied, or why not.
-pub fn copied(copied: Copied) -> Text
+pub fn copied(copied: Result<usize, Uncopied>) -> Text
     ensures { result ≡ text_of (answer_text copied_text (copied_said copied)) }
 {
-    match copied {
-        Copied::Count(_) => word(b"copied"),
-        _ => refusal(copied.number()),
-    }
+    text_for(copied, b"copied")
 }
 
 // What the check of a file answered: that it is good, or what is wrong.
-pub fn file(checked: FileChecked) -> Text
+pub fn file(checked: Result<usize, BadFile>) -> Text
     ensures { result ≡ text_of (file_text (file_said checked)) }
 {
-    match checked {
-        FileChecked::Good(_) => word(b"a good file"),
-        _ => refusal(checked.number()),
-    }
+    text_for(checked, b"a good file")
 }

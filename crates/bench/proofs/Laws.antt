@@ -1,17 +1,12 @@
 -- Laws of the count of sound items, and of a walk that makes it.
 use Prim.Native.Nat.{ℕ, zero, suc, ◌+◌, ◌-◌, ◌<◌, ◌≤◌}
 use mathlib.Core.Path.{◌≡◌, refl, ap, ◌∙◌}
-use mathlib.Core.Bool.{Bool, true, false}
 use mathlib.Core.List.{List}
 use mathlib.Core.Logic.{◌⊎◌, inl, inr}
 use native.Mathlib.Omega.{arith}
-use lib.Dec.{ltb}
 use lib.ListN.{length, drop, length-drop, drop_of_length-le}
-use borrow.Author.Tests.{ltb-true, ltb-false}
 use Rattle.num.specs.Answer.{Answer, gives, refuses}
-use Rattle.num.specs.Choice.{both}
 use Rattle.num.specs.declared.Order.{Order}
-use Rattle.num.proofs.Tests.{both-true}
 use Rattle.effect.specs.Says.{Says, ok, unknown, bad, waits, ready}
 use Rattle.frame.specs.Ahead.{ahead_of}
 use Rattle.frame.specs.declared.Ahead.{Ahead}
@@ -86,18 +81,6 @@ pub sound-end : (o : Order) (s : List ℕ) (c : Cursor) → length s ≤ c.place
 unfolding sound_count items_from
 sound-end o s c h = rw (drop_of_length-le s {i = c.place} h, frames-nil o)
 
--- a walk goes on while a byte is ahead and a step is left
-pub goes-on : (p l k n : ℕ) → both (ltb p l) (ltb k n) ≡ true → (p < l) × (k < n)
-goes-on p l k n h = let t = both-true (ltb p l) (ltb k n) h in (ltb-true p l t.0, ltb-true k n t.1)
-
--- it stops with no byte left, or with its steps made
-stop-by : (p l k n : ℕ) (b : Bool) → ltb p l ≡ b → both b (ltb k n) ≡ false → (l ≤ p) ⊎ (n ≤ k)
-stop-by p l k n true e h = inr (ltb-false k n h)
-stop-by p l k n false e h = inl (ltb-false p l e)
-
-pub stops : (p l k n : ℕ) → both (ltb p l) (ltb k n) ≡ false → (l ≤ p) ⊎ (n ≤ k)
-stops p l k n h = stop-by p l k n (ltb p l) refl h
-
 -- with no byte left, steps leave the cursor
 after-end : (m : ℕ) (o : Order) (s : List ℕ) (c : Cursor) → Fit c → c.place ≡ length s → after m o s c ≡ c
 after-end zero o s c f e = after-none o s c
@@ -107,8 +90,3 @@ after-end (suc m) o s c f e = after-next o s c m ∙ rw (step-end o s c e f) (af
 pub stays : (o : Order) (s : List ℕ) (c : Cursor) (k n : ℕ) → Fit c → c.place ≤ length s → (length s ≤ c.place) ⊎ (n ≤ k) → after (n - k) o s c ≡ c
 stays o s c k n f w (inl h) = after-end (n - k) o s c f (omega arith)
 stays o s c k n f w (inr h) = let m : n - k ≡ 0 = omega arith in rw m (after-none o s c)
-
--- each step passed a byte, so as many steps as there are bytes pass all of them
-pub passed : (p l k n : ℕ) → k ≤ p → (l ≤ p) ⊎ (n ≤ k) → l ≤ n → l ≤ p
-passed p l k n w (inl h) q = h
-passed p l k n w (inr h) q = omega arith

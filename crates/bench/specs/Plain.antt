@@ -1,12 +1,10 @@
 -- Answers as plain numbers, for a caller that takes no others.
-use Rattle.std.specs.Prelude.{ℕ, ◌+◌, List, [], ◌∷◌, eqb}
+use Rattle.std.specs.Prelude.{ℕ, ◌+◌, List, [], ◌∷◌, eqb, Option, Some, None}
 use Rattle.num.specs.Answer.{Answer, reply_with}
 use Rattle.num.specs.Choice.{pick}
 use Rattle.num.specs.declared.Order.{Order}
 use Rattle.num.specs.declared.Order.TheVariants.{Big, Little}
 use Rattle.effect.specs.Says.{Says, ok, unknown, bad, waits, ready}
-use Rattle.frame.specs.declared.Found.{Found}
-use Rattle.frame.specs.declared.Found.TheVariants.{Place, Nothing}
 use Rattle.reader.specs.Item.{Item, of_chunk}
 use Rattle.reader.specs.Items.{Given}
 
@@ -19,9 +17,9 @@ abbrev pub or_zero : Answer ℕ → ℕ
 or_zero a = (reply_with 0 a).value
 
 -- where a search stopped, or the end
-abbrev pub place_or : ℕ → Found → ℕ
-place_or stop (Place p) = p
-place_or stop Nothing = stop
+abbrev pub place_or : ℕ → Option ℕ → ℕ
+place_or stop (Some p) = p
+place_or stop None = stop
 
 -- 1 for a chunk that is good, unknown or ready, 0 for any other
 abbrev pub sound : Says → ℕ

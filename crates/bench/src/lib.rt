@@ -4,7 +4,6 @@
 ghost use Rattle.std.specs.Prelude.{◌≡◌, true, false, ◌≤◌, length};
 ghost use Rattle.num.specs.Answer.{refusal};
 ghost use Rattle.body.specs.Plain.{text};
-ghost use Rattle.effect.specs.Says.{verdict_said};
 ghost use Rattle.copy.specs.Samples.{short_at, pattern_at};
 ghost use Rattle.frame.specs.Place.{search_from};
 ghost use Rattle.reader.specs.Item.{item_said};
@@ -12,13 +11,11 @@ ghost use Rattle.reader.specs.Items.{items};
 ghost use Rattle.reader.specs.Step.{new_cursor, after};
 ghost use Rattle.samples.specs.Copy.{layout_at, count_of, samples_at, filled};
 ghost use Rattle.writer.specs.Write.{write_of, written_out};
-ghost use Rattle.bench.specs.Plain.{order_by, or_zero, place_or, sound, sound_count};
+ghost use Rattle.bench.specs.Plain.{order_by, or_zero, place_or, sound_count};
 ghost use Rattle.bench.specs.Inner.Sound.{sound_in};
 
-use body::TextRead;
 use effect::Verdict;
-use frame::Found;
-use num::Order;
+use num::{Numbered, Order};
 use reader::{Cursor, Item};
 
 // The order by its number: 0 is big, any other little.
@@ -39,34 +36,17 @@ pub fn bench_count(order: u32, s: &[u8]) -> usize
     reader::count(order_by(order), s)
 }
 
-// 1 for a chunk that is good, unknown or ready, 0 for any other.
-fn sound(verdict: Verdict) -> usize
-    ensures { result ≡ sound (verdict_said verdict) }
-{
-    match verdict {
-        Verdict::Good => 1,
-        Verdict::Unknown => 1,
-        Verdict::Ready(_) => 1,
-        Verdict::Malformed(_) => 0,
-        Verdict::NotCovered => 0,
-        Verdict::Waits(_, _) => 0,
-    }
-}
-
-// The same of an item, 0 where it is no chunk.
+// 1 for a chunk that is good, unknown or ready, 0 for any other item.
 fn sound_in(item: Item) -> usize
     ensures { result ≡ sound_in (item_said item) }
 {
-    let Item::Chunk {
-        place: _,
-        code: _,
-        size: _,
-        verdict,
-    } = item
-    else {
-        return 0;
-    };
-    sound(verdict)
+    usize::from(matches!(
+        item,
+        Item::Chunk {
+            verdict: Verdict::Good | Verdict::Unknown | Verdict::Ready(_),
+            ..
+        }
+    ))
 }
 
 // How far a reader came, and how many sound items it saw.
@@ -82,45 +62,37 @@ fn walk(order: Order, s: &[u8], steps: usize) -> Walked
     ensures counted { length s.now ≤ steps → result.sound ≡ sound_count (items order s.now) }
 {
     let mut cursor = Cursor::new();
-    let mut n = 0;
-    let mut k = 0;
-    while (cursor.place < s.len()) & (k < steps) {
+    let mut sound = 0;
+    for _ in 0..steps {
+        if cursor.place == s.len() {
+            break;
+        }
         let stepped = cursor.step(order, s);
-        let item = stepped.item;
-        let next = stepped.cursor;
-        n += sound_in(item);
-        cursor = next;
-        k += 1;
+        sound += sound_in(stepped.item);
+        cursor = stepped.cursor;
     }
-    Walked { cursor, sound: n }
+    Walked { cursor, sound }
 }
 
 // How many items of a stream are sound, found by a step for each item.
 pub fn bench_step(order: u32, s: &[u8]) -> usize
     ensures { result ≡ sound_count (items (order_by order) s.now) }
 {
-    let walked = walk(order_by(order), s, s.len());
-    walked.sound
+    walk(order_by(order), s, s.len()).sound
 }
 
 // Where a search stops, the end where it does not.
 pub fn bench_search(order: u32, s: &[u8], from: usize) -> usize
     ensures { result ≡ place_or (length s.now) (search_from (order_by order) s.now from) }
 {
-    match frame::search(order_by(order), s, from) {
-        Found::Place(p) => p,
-        Found::Nothing => s.len(),
-    }
+    frame::search(order_by(order), s, from).unwrap_or(s.len())
 }
 
 // What is wrong with the body of a TEXT chunk, by its number; 0 where nothing is.
 pub fn bench_text(order: u32, body: &[u8]) -> u32
     ensures { result ≡ refusal (text (order_by order) body.now) }
 {
-    match body::text(order_by(order), body) {
-        TextRead::Is(_) => 0,
-        TextRead::Malformed(f) => f.number(),
-    }
+    body::text(order_by(order), body).number()
 }
 
 // A record written at a place of out: the place past it, 0 where nothing is written.
@@ -128,11 +100,11 @@ pub fn bench_write(order: u32, code: u32, body: &[u8], out: &mut [u8], place: us
     ensures said { result ≡ or_zero (write_of (order_by order) code body.now (length out.old) place) }
     ensures left { out.new ≡ written_out (order_by order) code body.now out.old place }
 {
-    let written = writer::write(order_by(order), code, body, out, place);
-    written.place(0)
+    writer::write(order_by(order), code, body, out, place).unwrap_or(0)
 }
 
-// The 16-bit numbers of a channel, out of the chunk that so many steps lead to: how many were copied.
+// The 16-bit numbers of a channel, out of the chunk that so many steps lead to: how many were copied. The 32-bit patterns
+// have a function of their own and the orders are numbers, since bench_c exports each by its name for C.
 pub fn bench_shorts(order: u32, s: &[u8], steps: usize, channel: usize, out: &mut [i16]) -> usize
     ensures said { result
         ≡ or_zero (count_of false (order_by order) s.now
@@ -147,8 +119,7 @@ pub fn bench_shorts(order: u32, s: &[u8], steps: usize, channel: usize, out: &mu
 {
     let by = order_by(order);
     let walked = walk(by, s, steps);
-    let copied = samples::shorts_at(by, s, walked.cursor, channel, out);
-    copied.count()
+    samples::shorts_at(by, s, walked.cursor, channel, out).unwrap_or(0)
 }
 
 // The same of 32-bit patterns.
@@ -166,6 +137,5 @@ pub fn bench_patterns(order: u32, s: &[u8], steps: usize, channel: usize, out: &
 {
     let by = order_by(order);
     let walked = walk(by, s, steps);
-    let copied = samples::patterns_at(by, s, walked.cursor, channel, out);
-    copied.count()
+    samples::patterns_at(by, s, walked.cursor, channel, out).unwrap_or(0)
 }

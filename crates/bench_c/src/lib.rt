@@ -1,4 +1,5 @@
-// The exports of the crate bench for a C or Rust program, under the same names and with the same promises.
+// The exports of the crate bench for a C or Rust program, under the same names and with the same promises. One export
+// for each type of numbers: C has no generics.
 #![tactic(auto)]
 
 ghost use Rattle.std.specs.Prelude.{◌≡◌, true, false, ◌≤◌, length};

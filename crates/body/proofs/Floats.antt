@@ -39,3 +39,6 @@ finite-bits n = fields-finite (leb 2147483648 n) (n % 2147483648 / 8388608) (n %
 
 pub finite-small : (n : ℕ) → is_finite (of_bits binary32 n) ≡ true → n % 2147483648 < 2139095040
 finite-small n h = ltb-true (n % 2147483648) 2139095040 (sym (finite-bits n) ∙ h)
+
+-- what a float says, by its pattern
+pub ruleset finite_patterns = (no-nan, finite-bits)

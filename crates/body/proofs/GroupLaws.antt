@@ -1,9 +1,8 @@
 -- Laws of the kinds that count channels.
 use Prim.Native.Nat.{ℕ, ◌+◌, ◌*◌, ◌≤◌, ◌<◌}
-use mathlib.Core.Path.{◌≡◌, refl, sym, ap, ◌∙◌}
+use mathlib.Core.Path.{◌≡◌, refl}
 use mathlib.Core.Bool.{Bool, true, false}
 use mathlib.Core.List.{List}
-use native.Mathlib.Nat.{le_trans, mul-le-mul_left, mul-le-mul_right}
 use native.Mathlib.Omega.{arith}
 use lib.Dec.{eqb, ltb}
 use lib.IntN.{ℤ, pos, negsuc, nat_abs}
@@ -19,17 +18,9 @@ use Rattle.num.specs.Number.{unsigned_at}
 use Rattle.num.specs.declared.Order.{Order}
 use Rattle.num.proofs.Tests.{both-true}
 use Rattle.body.specs.Check.{int32}
-use Rattle.body.specs.Fault.{fault_number, checked_said}
 use Rattle.body.specs.Lists.{sixteen}
-use Rattle.body.specs.Groups.{Read, value_or, listed, is_number, head_ok, offset_at, offsets_ok, packed}
-use Rattle.body.specs.declared.faults.Fault.{Fault}
-use Rattle.body.specs.Verdict.{seen}
-use Rattle.body.specs.declared.faults.Checked.{Checked}
-use Rattle.body.specs.declared.faults.Checked.TheVariants.{Good, Malformed}
+use Rattle.body.specs.Groups.{listed, is_number, head_ok, offset_at, offsets_ok, packed}
 use Rattle.body.proofs.Laws.{negative32, is-pattern, natural-pattern}
-
-pub product : (a b : ℕ) → a ≤ 8 → b ≤ 16 → a * b ≤ 128
-product a b ha hb = le_trans (mul-le-mul_right b ha) (mul-le-mul_left 8 hb)
 
 -- a count that is not 1 to 16, by its pattern
 many-by : (u : ℕ) (b : Bool) → ltb u 2147483648 ≡ b → 16 < u → both (le_z (pos 1) (to_z w32 u)) (le_z (to_z w32 u) (pos 16)) ≡ false
@@ -76,26 +67,8 @@ module _ {A : Type 0} (head value : ℕ) (o : Order) (body : List ℕ) (f : ℕ 
 -- what a count says, by the pattern of the number at the front
 pub ruleset counted = (listed-short, listed-none, listed-many, listed-size, listed-whole)
 
--- ---- a value beside its verdict
-
-pub read-good : {A : Type 0} (v none : A) (rule : Answer A) → rule ≡ gives v → Read Good v none rule
-read-good v none rule e = record { said = sym e; holds = sym (ap (value_or none) e) }
-
-pub read-faulty : {A : Type 0} (f : Fault) (v none : A) (rule : Answer A) → v ≡ none → rule ≡ refuses (fault_number f) → Read (Malformed f) v none rule
-read-faulty f v none rule h e = record { said = sym e; holds = h ∙ sym (ap (value_or none) e) }
-
-seen-checked : {A : Type 0} (k : Checked) (v : A) → checked_said k tt ≡ seen (checked_said k v)
-seen-checked Good v = refl
-seen-checked (Malformed f) v = refl
-
--- of a body that has no value there is nothing to leave out
-pub seen-unit : (a : Answer (Unit {0})) → seen a ≡ a
-seen-unit (gives u) = refl
-seen-unit (refuses n) = refl
-
--- the verdict alone
-pub seen-read : {A : Type 0} {k : Checked} {v none : A} {rule : Answer A} → Read k v none rule → checked_said k tt ≡ seen rule
-seen-read {k = k} {v = v} h = seen-checked k v ∙ ap seen h.said
+-- the count first, then what depends on it
+pub ruleset counts_first = (listed-then)
 
 -- ---- GIQP, by the patterns p of its packing and q of its increment
 
@@ -116,3 +89,6 @@ module _ (o : Order) (body : List ℕ) (n p q : ℕ) (ep : p ≡ unsigned_at 4 o
       packed o body n ≡ gives (record { n = n; iq = eqb p 1; increment = q; offsets = sixteen (λ c. nat_abs (offset_at o body c)) 0 n })
   unfolding packed
   packed-good h k = rw (← ep, ← eq, h, k, is-pattern 1 p (omega arith), natural-pattern q (head-natural n (to_z w32 p) (to_z w32 q) h))
+
+-- what a packing says, by these patterns
+pub ruleset packing = (packed-head, packed-offsets, packed-good)

@@ -1,31 +1,16 @@
 -- Laws of signed numbers and their tests.
 use Prim.Native.Nat.{ℕ, suc, ◌-◌, ◌^◌, ◌≤◌, ◌<◌}
 use mathlib.Core.Path.{◌≡◌, refl}
-use mathlib.Core.Bool.{Bool, true, false, not}
+use mathlib.Core.Bool.{Bool, true, false}
 use native.Mathlib.Omega.{arith}
-use lib.Dec.{leb, ltb, eqb}
-use lib.IntN.{ℤ, pos, negsuc, nat_abs}
-use lib.Signed.{le_z, lt_z, mag}
-use mir.Syntax.{w32, w64}
-use mir.Val.{SFits, to_z}
+use lib.Dec.{ltb, eqb}
+use lib.IntN.{pos, negsuc, nat_abs}
+use lib.Signed.{le_z}
+use mir.Syntax.{w32}
+use mir.Val.{to_z}
 use mir.ValLaws.{to_z_pos}
 use Rattle.body.specs.Groups.{is_number}
-use borrow.Author.Tests.{le-leb, lt-leb, le-ltb, ne_eqb, ltb-true, ltb-false}
-
-leb-ltb : (a b : ℕ) (t : Bool) → ltb b a ≡ t → leb a b ≡ not t
-leb-ltb a b true h = lt-leb a b (ltb-true b a h)
-leb-ltb a b false h = le-leb a b (ltb-false b a h)
-
--- a is at most b where b is not below a
-pub at-most : (a b : ℤ) → le_z a b ≡ not (lt_z b a)
-at-most (pos a) (pos b) = leb-ltb a b (ltb b a) refl
-at-most (pos a) (negsuc b) = refl
-at-most (negsuc a) (pos b) = refl
-at-most (negsuc a) (negsuc b) = leb-ltb b a (ltb a b) refl
-
--- a number of 32 bits is one of 64
-pub widened : (z : ℤ) → mag z < 2 ^ 31 → SFits w64 z
-widened z h = record { sfits = omega arith }
+use borrow.Author.Tests.{le-ltb, ne_eqb, ltb-true, ltb-false}
 
 -- ---- an int32 by its pattern u
 

@@ -1,9 +1,9 @@
 pub mod Laws
-pub mod ByKeys
 pub mod FaultNumbers
 pub mod Floats
 pub mod Nans
 pub mod Lists
+pub mod Ranges
 pub mod GroupLaws
 pub mod Texts
 pub mod Allowed

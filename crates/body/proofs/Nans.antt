@@ -1,15 +1,9 @@
--- No NaN is equal to a number, and every other number is equal to itself.
+-- A float that is not equal to itself is a NaN, and each NaN has one pattern.
 use Prim.Native.Nat.{◌*◌}
-use mathlib.Core.Path.{◌≡◌, refl, sym, subst}
-use mathlib.Core.Bool.{Bool, true, false, not, ◌&&◌}
+use mathlib.Core.Path.{◌≡◌, refl, subst}
+use mathlib.Core.Bool.{Bool, true, false, ◌&&◌}
 use lib.Dec.{T, eqb, eqb_refl}
-use lib.Ieee.{Float, nan, inf, fin, is_nan, eq, up, down}
-
-pub equal-no-nan : (x y : Float) → eq x y ≡ true → T (not (is_nan x))
-unfolding eq is_nan
-equal-no-nan nan y h = absurd (subst T (sym h) tt)
-equal-no-nan (inf s) y h = tt
-equal-no-nan (fin s m e) y h = tt
+use lib.Ieee.{Float, nan, inf, fin, is_nan, eq, up, down, binary32, to_bits}
 
 with-true : (b : Bool) → T b → b && true ≡ false → ⊥
 with-true true t h = subst T h tt
@@ -22,3 +16,12 @@ unequal-nan (inf true) h = absurd (subst T h tt)
 unequal-nan (inf false) h = absurd (subst T h tt)
 unequal-nan (fin true m e) h = absurd (with-true (eqb (m * up e * down e) (m * up e * down e)) (eqb_refl (m * up e * down e)) h)
 unequal-nan (fin false m e) h = absurd (with-true (eqb (m * up e * down e) (m * up e * down e)) (eqb_refl (m * up e * down e)) h)
+
+-- each NaN has one pattern
+pub nan-pattern : (x : Float) → is_nan x ≡ true → 2143289344 ≡ to_bits binary32 x
+unfolding is_nan to_bits
+nan-pattern nan h = refl
+nan-pattern (inf s) h = cc
+nan-pattern (fin s m e) h = cc
+
+pub ruleset patterns = (nan-pattern)

@@ -1,15 +1,15 @@
 -- Laws of texts and their padding.
-use Prim.Native.Nat.{ℕ, ◌+◌, ◌^◌, ◌≤◌, ◌<◌}
-use mathlib.Core.Path.{◌≡◌}
-use mathlib.Core.List.{List}
-use native.Mathlib.Numerals.{add-one}
+use Prim.Native.Nat.{ℕ, ◌^◌, ◌≤◌, ◌<◌}
+use mathlib.Core.Path.{◌≡◌, refl}
+use mathlib.Core.Bool.{Bool, true, false, ◌&&◌}
+use mathlib.Core.List.{List, [], ◌∷◌}
 use native.Mathlib.Omega.{arith}
 use lib.Dec.{eqb}
-use lib.ListN.{length, get_or, drop}
-use lib.Seq.{drop-cons}
+use lib.ListN.{length}
 use mir.Syntax.{w32}
 use mir.ValLaws.{to_z_pos}
 use borrow.Author.Tests.{lt-ltb, le-ltb, le-leb}
+use Rattle.std.specs.List.{list_all}
 use Rattle.num.specs.Answer.{refuses}
 use Rattle.num.specs.Choice.{both}
 use Rattle.num.specs.Number.{unsigned_at}
@@ -17,10 +17,15 @@ use Rattle.num.specs.declared.Order.{Order}
 use Rattle.body.specs.Plain.{zeros, texts, text}
 use Rattle.body.proofs.Laws.{negative32}
 
--- one byte more of the padding
-pub zeros-step : (s : List ℕ) (i : ℕ) → i < length s → zeros (drop i s) ≡ both (eqb (get_or s i 0) 0) (zeros (drop (i + 1) s))
+and-both : (a b c : Bool) → b ≡ c → a && b ≡ both a c
+and-both true b c e = e
+and-both false b c e = refl
+
+-- the padding is zero where each byte of it is
+pub zeros-all : (s : List ℕ) → list_all (λ b. eqb b 0) s ≡ zeros s
 unfolding zeros
-zeros-step s i h = rw (add-one i, drop-cons s i 0 h)
+zeros-all [] = refl
+zeros-all (b ∷ s) = and-both (eqb b 0) (list_all (λ b. eqb b 0) s) (zeros s) (zeros-all s)
 
 -- TEXT, by the pattern u of its length
 module _ (o : Order) (body : List ℕ) where
@@ -35,3 +40,6 @@ module _ (o : Order) (body : List ℕ) where
   pub text-length : (u : ℕ) → u ≡ unsigned_at 4 o body 0 → 4 ≤ length body → u < 2 ^ 31 → texts body u ≡ text o body
   unfolding text
   text-length u e h k = rw (← e, le-ltb (length body) 4 h, to_z_pos w32 u k, le-leb 0 u (omega arith))
+
+-- what a text says, by the pattern of its length
+pub ruleset by_length = (text-short, text-negative, text-length)

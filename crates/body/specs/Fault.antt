@@ -1,8 +1,6 @@
 -- The numbers of what is wrong with a body.
-use Rattle.std.specs.Prelude.{ℕ}
-use Rattle.num.specs.Answer.{Answer, gives, refuses}
-use Rattle.body.specs.declared.faults.Checked.{Checked}
-use Rattle.body.specs.declared.faults.Checked.TheVariants.{Good, Malformed}
+use Rattle.std.specs.Prelude.{ℕ, Result}
+use Rattle.num.specs.Answer.{Answer, answered}
 use Rattle.body.specs.declared.faults.Fault.{Fault}
 use Rattle.body.specs.declared.faults.Fault.TheVariants.{Size, Value, Count, Padding, Text}
 
@@ -13,7 +11,6 @@ fault_number Count = 13
 fault_number Padding = 14
 fault_number Text = 15
 
--- what a verdict says of a value that stands beside it
-abbrev pub checked_said : {A : Type 0} → Checked → A → Answer A
-checked_said Good a = gives a
-checked_said (Malformed f) a = refuses (fault_number f)
+-- what reading a body says: the value in it, or the number of what is wrong with it
+abbrev pub read_said : {A : Type 0} → Result A Fault → Answer A
+read_said = answered fault_number

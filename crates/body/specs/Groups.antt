@@ -1,19 +1,17 @@
 -- The group kinds: GIQP, GCF_, GRG_, each a count n and n values.
-use Rattle.std.specs.Prelude.{ℕ, ◌+◌, ◌*◌, ◌≡◌, Bool, false, List, eqb, ltb, Float, ℤ, pos, negsuc, nat_abs, length, replicate}
+use Rattle.std.specs.Prelude.{ℕ, ◌+◌, ◌*◌, Bool, false, List, eqb, ltb, Float, ℤ, pos, negsuc, nat_abs, length, replicate}
 use Rattle.std.specs.Float.{binary32}
 use Rattle.std.specs.Float.Ieee.{of_bits}
 use Rattle.std.specs.Int.Signed.{le_z}
 use Rattle.num.specs.Answer.{Answer, gives, refuses}
 use Rattle.num.specs.Choice.{pick, both, either, each}
 use Rattle.num.specs.declared.Order.{Order}
-use Rattle.body.specs.Check.{int32, int64, sized, allowed, or_else}
-use Rattle.body.specs.Fault.{checked_said}
+use Rattle.body.specs.Check.{int32, int64, sized, allowed}
 use Rattle.body.specs.Levels.{float32, is_finite}
 use Rattle.body.specs.Lists.{sixteen}
 use Rattle.body.specs.declared.groups.GroupPacking.{GroupPacking}
 use Rattle.body.specs.declared.groups.GroupHertz.{GroupHertz}
 use Rattle.body.specs.declared.groups.GroupGains.{GroupGains}
-use Rattle.body.specs.declared.faults.Checked.{Checked}
 
 -- absent lists: no channel, and 0 in every place
 abbrev pub no_packing : GroupPacking
@@ -24,16 +22,6 @@ no_hertz = record { n = 0; values = replicate 16 (pos 0) }
 
 abbrev pub no_gains : GroupGains
 no_gains = record { n = 0; values = replicate 16 (of_bits binary32 0) }
-
--- what was given, or what stands for its absence
-abbrev pub value_or : {A : Type 0} → A → Answer A → A
-value_or none a = or_else none (λ x. x) a
-
--- a checker's answer that has its value beside it: it says what the rule says, and a malformed body leaves the value
--- absent
-pub record Read {A : Type 0} (checked : Checked) (value none : A) (rule : Answer A) : Type 0 where
-  pub said : checked_said checked value ≡ rule
-  pub holds : value ≡ value_or none rule
 
 -- number 13 unless a group has 1 to 16 channels
 abbrev pub with_channels : {A : Type 0} → ℤ → (ℕ → Answer A) → Answer A

@@ -2,15 +2,12 @@
 use Rattle.std.specs.Prelude.{ℕ, Bool, true, false, List, Float}
 use Rattle.std.specs.Float.{nan, inf, fin, binary32}
 use Rattle.std.specs.Float.Ieee.{of_bits, lt}
-use Rattle.num.specs.Answer.{Answer, gives, refuses, then}
+use Rattle.num.specs.Answer.{Answer, gives, then}
 use Rattle.num.specs.Number.{unsigned_at}
 use Rattle.num.specs.declared.Order.{Order}
 use Rattle.body.specs.Check.{sized, allowed}
-use Rattle.body.specs.Fault.{fault_number}
 use Rattle.body.specs.declared.levels.Level.{Level}
 use Rattle.body.specs.declared.levels.Level.TheVariants.{FullScale, TotalGain, FloatFullScale}
-use Rattle.body.specs.declared.levels.LevelRead.{LevelRead}
-use Rattle.body.specs.declared.levels.LevelRead.TheVariants.{Is, Malformed}
 
 -- the float32 at a place of a body
 abbrev pub float32 : Order → List ℕ → ℕ → Float
@@ -21,11 +18,6 @@ abbrev pub is_finite : Float → Bool
 is_finite nan = false
 is_finite (inf s) = false
 is_finite (fin s m e) = true
-
--- what each case of the answer says
-abbrev pub level_said : LevelRead → Answer Level
-level_said (Is l) = gives l
-level_said (Malformed f) = refuses (fault_number f)
 
 -- a body of one finite float32
 abbrev pub finite32 : Order → List ℕ → Answer Float

@@ -10,4 +10,3 @@ pub mod Plain
 pub mod Values
 pub mod Table
 pub mod Verdict
-pub mod Inner

@@ -1,25 +1,11 @@
 -- The kinds whose body is a number or two.
 use Rattle.std.specs.Prelude.{ℕ, List, ℤ, pos}
 use Rattle.std.specs.Int.Signed.{le_z}
-use Rattle.num.specs.Answer.{Answer, gives, refuses}
+use Rattle.num.specs.Answer.{Answer, gives}
 use Rattle.num.specs.Choice.{both}
 use Rattle.num.specs.declared.Order.{Order}
 use Rattle.body.specs.Check.{int32, int64, sized, allowed}
-use Rattle.body.specs.Fault.{fault_number}
-use Rattle.body.specs.declared.numbers.NumberRead.{NumberRead}
-use Rattle.body.specs.declared.numbers.NumberRead.TheVariants.{Is, Malformed}
 use Rattle.body.specs.declared.numbers.Band.{Band}
-use Rattle.body.specs.declared.numbers.BandRead.{BandRead}
-use Rattle.body.specs.declared.numbers.BandRead.TheVariants as band
-
--- what each case of the answers says
-abbrev pub number_said : NumberRead → Answer ℤ
-number_said (Is v) = gives v
-number_said (Malformed f) = refuses (fault_number f)
-
-abbrev pub band_said : BandRead → Answer Band
-band_said (band.Is b) = gives b
-band_said (band.Malformed f) = refuses (fault_number f)
 
 -- SIQP: an int32, 1 for I before Q, 0 for Q before I
 abbrev pub siqp : Order → List ℕ → Answer ℤ

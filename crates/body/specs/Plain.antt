@@ -6,18 +6,10 @@ use Rattle.num.specs.Choice.{pick, both}
 use Rattle.num.specs.declared.Order.{Order}
 use Rattle.text.specs.Utf8.{is_utf8}
 use Rattle.body.specs.Check.{int32, sized}
-use Rattle.body.specs.Fault.{fault_number}
-use Rattle.body.specs.declared.plain.TextRead.{TextRead}
-use Rattle.body.specs.declared.plain.TextRead.TheVariants.{Is, Malformed}
 
 -- EOFH and IQDC: no byte
 abbrev pub empty : List ℕ → Answer (Unit {0})
 empty body = sized 0 body (gives tt)
-
--- what each case of the answer says: the text's length
-abbrev pub text_said : TextRead → Answer ℕ
-text_said (Is n) = gives n
-text_said (Malformed f) = refuses (fault_number f)
 
 -- each byte is 0
 unfoldable pub zeros : List ℕ → Bool

@@ -4,17 +4,9 @@ use Rattle.num.specs.Answer.{Answer, gives, refuses}
 use Rattle.num.specs.Choice.{pick, both}
 use Rattle.num.specs.declared.Order.{Order}
 use Rattle.body.specs.Check.{int64}
-use Rattle.body.specs.Fault.{fault_number}
 use Rattle.body.specs.declared.sampled.Data.{Data}
 use Rattle.body.specs.declared.sampled.Shape.{Shape}
 use Rattle.body.specs.declared.sampled.Shape.TheVariants.{ShortPairs, ShortReals, ShortGroup, FloatPairs, FloatReals, FloatGroup}
-use Rattle.body.specs.declared.sampled.DataRead.{DataRead}
-use Rattle.body.specs.declared.sampled.DataRead.TheVariants.{Is, Malformed}
-
--- what each case of the answer says
-abbrev pub data_said : DataRead → Answer Data
-data_said (Is d) = gives d
-data_said (Malformed f) = refuses (fault_number f)
 
 -- number 11 unless the body has an int64 time, of 8 bytes, and then whole samples of so many bytes each, or none
 abbrev pub timed_samples : ℕ → Order → List ℕ → Answer Data

@@ -1,6 +1,6 @@
 -- The table of kinds: for each kind how its body is read, and what it does to the state. Whatever differs by kind
 -- follows from its row.
-use Rattle.std.specs.Prelude.{ℕ, Bool, false, List, eqb}
+use Rattle.std.specs.Prelude.{ℕ, Bool, false, List, eqb, Option, Some, None}
 use Rattle.num.specs.Answer.{Answer}
 use Rattle.num.specs.declared.Order.{Order}
 use Rattle.body.specs.Numbers.{siqp, sofh, sr, bw, cf, bwof}
@@ -10,8 +10,6 @@ use Rattle.body.specs.Plain.{empty, text}
 use Rattle.body.specs.Values.{no_number, no_band, no_level, number, centred, banded, levelled}
 use Rattle.body.specs.declared.sampled.Shape.{Shape}
 use Rattle.body.specs.declared.sampled.Shape.TheVariants.{ShortPairs, ShortReals, ShortGroup, FloatPairs, FloatReals, FloatGroup}
-use Rattle.body.specs.declared.sampled.Shaped.{Shaped}
-use Rattle.body.specs.declared.sampled.Shaped.TheVariants.{Samples, NoSamples}
 use Rattle.body.specs.declared.groups.GroupPacking.{GroupPacking}
 use Rattle.body.specs.declared.groups.GroupHertz.{GroupHertz}
 use Rattle.body.specs.declared.groups.GroupGains.{GroupGains}
@@ -130,12 +128,12 @@ unfoldable pub set_by : Kind → Slot → Bool
 set_by k = sets_by (row k)
 
 -- what the samples of a kind are, if it is a data kind
-abbrev pub shaped_by : Row → Shaped
-shaped_by (sets x hold read) = NoSamples
-shaped_by (marks read) = NoSamples
-shaped_by (leaves read) = NoSamples
-shaped_by (samples shape) = Samples shape
-shaped_by unknown = NoSamples
+abbrev pub shaped_by : Row → Option Shape
+shaped_by (sets x hold read) = None
+shaped_by (marks read) = None
+shaped_by (leaves read) = None
+shaped_by (samples shape) = Some shape
+shaped_by unknown = None
 
-unfoldable pub shaped : Kind → Shaped
+unfoldable pub shaped : Kind → Option Shape
 shaped k = shaped_by (row k)

@@ -2,39 +2,28 @@
 ghost use Rattle.std.specs.Prelude.{◌≡◌};
 ghost use Rattle.body.specs.Fault.{fault_number};
 
-// What is wrong with a body.
-#[derive(Clone, Copy)]
+use num::Numbered;
+
+// What is wrong with a body, each with its number.
+#[derive(Clone, Copy, PartialEq, Eq)]
 pub enum Fault {
-    // The size is not that of the kind, or a text's length does not fit: number 11.
-    Size,
-    // A value that the kind does not allow: number 12.
-    Value,
-    // A count of channels that is not 1 to 16: number 13.
-    Count,
-    // Padding that is not zero: number 14.
-    Padding,
-    // A text that is not UTF-8: number 15.
-    Text,
+    // The size is not that of the kind, or a text's length does not fit.
+    Size = 11,
+    // A value that the kind does not allow.
+    Value = 12,
+    // A count of channels that is not 1 to 16.
+    Count = 13,
+    // Padding that is not zero.
+    Padding = 14,
+    // A text that is not UTF-8.
+    Text = 15,
 }
 
-impl Fault {
-    // The number of the fault, 11 to 15.
-    pub fn number(self) -> u32
-        ensures { result ≡ fault_number self }
-    {
-        match self {
-            Fault::Size => 11,
-            Fault::Value => 12,
-            Fault::Count => 13,
-            Fault::Padding => 14,
-            Fault::Text => 15,
-        }
+// The number of the fault, 11 to 15. No `From` for u32: verdicts, items and results have numbers by the same trait.
+impl Numbered for Fault {
+    ghost number_of = { fault_number };
+
+    fn number(self) -> u32 {
+        self as u32
     }
-}
-
-// Whether a body is well-formed, or what is wrong with it.
-#[derive(Clone, Copy)]
-pub enum Checked {
-    Good,
-    Malformed(Fault),
 }

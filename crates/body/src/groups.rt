@@ -1,20 +1,25 @@
 // The group kinds: GIQP, GCF_, GRG_, each a count n of channels and n values.
-ghost use Rattle.std.specs.Prelude.{◌≡◌, true, ◌≤◌, pos, nat_abs};
+ghost use Rattle.std.specs.Prelude.{◌≡◌, ℕ, true, ◌≤◌, ◌<◌, pos, nat_abs, IfOk, IfErr};
 ghost use Rattle.std.specs.Float.{binary32};
 ghost use Rattle.std.specs.Float.Ieee.{of_bits};
 ghost use Rattle.std.specs.Int.{w32};
 ghost use Rattle.std.proofs.Common.{to_z};
 ghost use Rattle.num.specs.Answer.{gives, refuses};
-ghost use Rattle.body.specs.Fault.{fault_number};
+ghost use Rattle.body.specs.Fault.{fault_number, read_said};
+ghost use Rattle.body.specs.Levels.{is_finite};
 ghost use Rattle.body.specs.Lists.{sixteen};
-ghost use Rattle.body.specs.Inner.Answers.{channels_said, InCount};
-ghost use Rattle.body.specs.Groups.{Read, packing_head, no_packing, no_hertz, no_gains, listed, offset_at, hertz_at, gain_at, offsets_ok, gains_ok, head_ok, packed, amplified, giqp, gcf, grg};
+ghost use Rattle.body.specs.Groups.{packing_head, no_packing, no_hertz, no_gains, listed, offset_at, hertz_at, gain_at, offsets_ok, gains_ok, head_ok, packed, tuned, amplified, giqp, gcf, grg};
 
-use crate::faults::{Checked, Fault};
-use num::Order;
+use crate::faults::Fault;
+use crate::levels::is_finite_pattern;
+use num::{Number, Order};
 
 // The bytes of a GIQP before its offsets: n, packing and increment.
-pub const PACKING_HEAD: usize = 12;
+const PACKING_HEAD: usize = 12;
+
+// The three types below keep their open fields, n of 0 for an absent value and the unused places: a state is a plain
+// value, which a caller may give as no chunks leave it, and number 3 refuses it (crates/trials/src/states.rt).
+// GroupHertz and GroupGains are two types, since docs/CALLS.md and specs/Table.antt name each.
 
 // GIQP: how the pairs of a group chunk are packed. n is the number of channels, 0 where the value is absent; iq says
 // whether I stands before Q; increment is the step from one sample of a channel to its next, in pairs; offsets has the
@@ -41,32 +46,7 @@ pub struct GroupGains {
     pub values: [f32; 16],
 }
 
-// The verdict on a GIQP body, and its value, which is absent where the body is malformed.
-#[derive(Clone, Copy)]
-pub struct GroupPackingRead {
-    pub checked: Checked,
-    pub packing: GroupPacking,
-}
-
-// The same of a GCF_ body.
-#[derive(Clone, Copy)]
-pub struct GroupHertzRead {
-    pub checked: Checked,
-    pub hertz: GroupHertz,
-}
-
-// The same of a GRG_ body.
-#[derive(Clone, Copy)]
-pub struct GroupGainsRead {
-    pub checked: Checked,
-    pub gains: GroupGains,
-}
-
-#[derive(Clone, Copy)]
-enum ChannelsRead {
-    Is(usize),
-    Malformed(Fault),
-}
+// The next three calls differ in their types alone. They stay three, since docs/CALLS.md lists each by its name.
 
 // An absent GIQP.
 pub fn no_packing() -> GroupPacking
@@ -100,198 +80,162 @@ pub fn no_gains() -> GroupGains
     }
 }
 
-// How many channels a body has, where head bytes stand before the values and a value takes so many.
+// A count of channels, 1 to 16.
+#[derive(Clone, Copy)]
+struct Channels {
+    n: usize,
+    ghost counted: { (1 ≤ n) × (n ≤ 16) },
+}
+
+// The channels of a body, where head bytes stand before the values and a value takes so many.
 #[tactic(auto, using(crate::proofs::GroupLaws::counted))]
-fn count(order: Order, body: &[u8], head: usize, value: usize) -> ChannelsRead
+fn count(order: Order, body: &[u8], head: usize, value: usize) -> Result<Channels, Fault>
     requires { (4 ≤ head) × (head ≤ packing_head) × (value ≤ 8) }
-    ensures { (channels_said result ≡ listed head value order body.now gives) × InCount result }
+    ensures ok { IfOk result (λ c. gives c.n ≡ listed head value order body.now gives) }
+    ensures err { IfErr result (λ f. refuses (fault_number f) ≡ listed head value order body.now gives) }
 {
     if body.len() < head {
-        return ChannelsRead::Malformed(Fault::Size);
+        return Err(Fault::Size);
     }
-    let n = num::u32_at(order, body, 0) as usize;
-    if n < 1 {
-        return ChannelsRead::Malformed(Fault::Count);
-    }
-    if 16 < n {
-        return ChannelsRead::Malformed(Fault::Count);
+    let n = u32::at(order, body, 0) as usize;
+    if n < 1 || 16 < n {
+        return Err(Fault::Count);
     }
     if body.len() != head + value * n {
-        return ChannelsRead::Malformed(Fault::Size);
+        return Err(Fault::Size);
     }
-    ChannelsRead::Is(n)
+    Ok(Channels { n })
 }
 
-fn good_offsets(order: Order, body: &[u8], n: usize) -> bool
-    requires { n ≤ 16 }
-    ensures { result ≡ offsets_ok order body.now n }
-{
-    let mut c = 0;
-    while c < n {
-        if num::i32_at(order, body, PACKING_HEAD + 4 * c) < 0 {
-            return false;
+impl Channels {
+    // Sixteen places: a value for each channel, and `absent` in the others.
+    fn sixteen<T: Copy, F: Fn(usize) -> T>(self, absent: T, value: F) -> [T; 16]
+        requires { (c : ℕ) → c < self.n → F.pre value c }
+        ensures { (f : ℕ → T) → ((c : ℕ) (v : T) → c < self.n → F.post value c v → v ≡ f c)
+            → result ≡ sixteen f absent self.n }
+    {
+        let mut a = [absent; 16];
+        // There are n values to ask for, and `std::array::from_fn` would ask for sixteen.
+        for c in 0..self.n {
+            a[c] = value(c);
         }
-        c += 1;
+        a
     }
-    true
-}
 
-fn offsets(order: Order, body: &[u8], n: usize) -> [u32; 16]
-    requires { (n ≤ 16) × (offsets_ok order body.now n ≡ true) }
-    ensures { result ≡ sixteen (λ c. nat_abs (offset_at order body.now c)) 0 n }
-{
-    let mut a = [0u32; 16];
-    let mut c = 0;
-    while c < n {
-        a[c] = num::u32_at(order, body, PACKING_HEAD + 4 * c);
-        c += 1;
+    // Whether packing and increment are allowed.
+    fn good_head(self, packing: u32, increment: u32) -> bool
+        ensures { result ≡ head_ok self.n (to_z w32 packing) (to_z w32 increment) }
+    {
+        ((packing == 0) | (packing == 1)) & ((increment == 1) | (increment as usize == self.n))
     }
-    a
-}
 
-fn hertz(order: Order, body: &[u8], n: usize) -> [i64; 16]
-    requires { n ≤ 16 }
-    ensures { result ≡ sixteen (hertz_at order body.now) (pos 0) n }
-{
-    let mut a = [0i64; 16];
-    let mut c = 0;
-    while c < n {
-        a[c] = num::i64_at(order, body, 4 + 8 * c);
-        c += 1;
+    // Whether no offset is negative.
+    fn good_offsets(self, order: Order, body: &[u8]) -> bool
+        ensures { result ≡ offsets_ok order body.now self.n }
+    {
+        (0..self.n).all(|c| i32::at(order, body, PACKING_HEAD + 4 * c) >= 0)
     }
-    a
-}
 
-fn good_gains(order: Order, body: &[u8], n: usize) -> bool
-    requires { n ≤ 16 }
-    ensures { result ≡ gains_ok order body.now n }
-{
-    let mut c = 0;
-    while c < n {
-        if num::u32_at(order, body, 4 + 4 * c) % 0x8000_0000 >= 0x7F80_0000 {
-            return false;
+    // The offsets, none of which is negative.
+    fn offsets(self, order: Order, body: &[u8]) -> [u32; 16]
+        requires { offsets_ok order body.now self.n ≡ true }
+        ensures { result ≡ sixteen (λ c. nat_abs (offset_at order body.now c)) 0 self.n }
+    {
+        self.sixteen(0, |c| u32::at(order, body, PACKING_HEAD + 4 * c))
+    }
+
+    fn hertz(self, order: Order, body: &[u8]) -> [i64; 16]
+        ensures { result ≡ sixteen (hertz_at order body.now) (pos 0) self.n }
+    {
+        self.sixteen(0, |c| i64::at(order, body, 4 + 8 * c))
+    }
+
+    // Whether each gain is finite, which its pattern tells.
+    fn good_gains(self, order: Order, body: &[u8]) -> bool
+        ensures { result ≡ gains_ok order body.now self.n }
+    {
+        (0..self.n).all(|c| is_finite_pattern(u32::at(order, body, 4 + 4 * c)))
+    }
+
+    // The gains, each of which is finite.
+    fn gains(self, order: Order, body: &[u8]) -> [f32; 16]
+        requires { gains_ok order body.now self.n ≡ true }
+        ensures { result ≡ sixteen (gain_at order body.now) (of_bits binary32 0) self.n }
+    {
+        self.sixteen(
+            0.0,
+            |c|
+                requires { (c < 16) × (is_finite (gain_at order body.now c) ≡ true) }
+            { f32::from_bits(u32::at(order, body, 4 + 4 * c)) },
+        )
+    }
+
+    // The packing of a body that has the size for these channels.
+    #[tactic(auto, using(crate::proofs::GroupLaws::packing))]
+    fn packed(self, order: Order, body: &[u8]) -> Result<GroupPacking, Fault>
+        ensures { read_said result ≡ packed order body.now self.n }
+    {
+        let packing = u32::at(order, body, 4);
+        let increment = u32::at(order, body, 8);
+        if !self.good_head(packing, increment) || !self.good_offsets(order, body) {
+            return Err(Fault::Value);
         }
-        c += 1;
-    }
-    true
-}
-
-fn gains(order: Order, body: &[u8], n: usize) -> [f32; 16]
-    requires { (n ≤ 16) × (gains_ok order body.now n ≡ true) }
-    ensures { result ≡ sixteen (gain_at order body.now) (of_bits binary32 0) n }
-{
-    let mut a = [0.0f32; 16];
-    let mut c = 0;
-    while c < n {
-        a[c] = f32::from_bits(num::u32_at(order, body, 4 + 4 * c));
-        c += 1;
-    }
-    a
-}
-
-fn packing_faulty(f: Fault) -> GroupPackingRead
-    ensures { Read result.checked result.packing no_packing (refuses (fault_number f)) }
-{
-    GroupPackingRead {
-        checked: Checked::Malformed(f),
-        packing: no_packing(),
-    }
-}
-
-fn good_head(packing: u32, increment: u32, n: usize) -> bool
-    requires { n ≤ 16 }
-    ensures { result ≡ head_ok n (to_z w32 packing) (to_z w32 increment) }
-{
-    ((packing == 0) | (packing == 1)) & ((increment == 1) | (increment as usize == n))
-}
-
-// The packing of a body that has the size for n channels.
-fn packing_of(order: Order, body: &[u8], n: usize) -> GroupPackingRead
-    requires { (1 ≤ n) × (n ≤ 16) }
-    ensures { Read result.checked result.packing no_packing (packed order body.now n) }
-{
-    let packing = num::u32_at(order, body, 4);
-    let increment = num::u32_at(order, body, 8);
-    if !good_head(packing, increment, n) {
-        return packing_faulty(Fault::Value);
-    }
-    if !good_offsets(order, body, n) {
-        return packing_faulty(Fault::Value);
-    }
-    GroupPackingRead {
-        checked: Checked::Good,
-        packing: GroupPacking {
-            n,
+        Ok(GroupPacking {
+            n: self.n,
             iq: packing == 1,
             increment,
-            offsets: offsets(order, body, n),
-        },
+            offsets: self.offsets(order, body),
+        })
+    }
+
+    // Its frequencies.
+    #[tactic(auto, unfolding(crate::specs::Groups::tuned))]
+    fn tuned(self, order: Order, body: &[u8]) -> GroupHertz
+        ensures { gives result ≡ tuned order body.now self.n }
+    {
+        GroupHertz {
+            n: self.n,
+            values: self.hertz(order, body),
+        }
+    }
+
+    // Its gains.
+    #[tactic(auto, unfolding(crate::specs::Groups::amplified))]
+    fn amplified(self, order: Order, body: &[u8]) -> Result<GroupGains, Fault>
+        ensures { read_said result ≡ amplified order body.now self.n }
+    {
+        if !self.good_gains(order, body) {
+            return Err(Fault::Value);
+        }
+        Ok(GroupGains {
+            n: self.n,
+            values: self.gains(order, body),
+        })
     }
 }
 
 // Reads a GIQP body. Malformed: 11 a wrong size, 13 not 1 to 16 channels, 12 a packing, increment or offset that is not
 // allowed.
-pub fn giqp(order: Order, body: &[u8]) -> GroupPackingRead
-    ensures { Read result.checked result.packing no_packing (giqp order body.now) }
+#[tactic(auto, using(crate::proofs::GroupLaws::counts_first))]
+pub fn giqp(order: Order, body: &[u8]) -> Result<GroupPacking, Fault>
+    ensures { read_said result ≡ giqp order body.now }
 {
-    match count(order, body, PACKING_HEAD, 4) {
-        ChannelsRead::Is(n) => packing_of(order, body, n),
-        ChannelsRead::Malformed(f) => packing_faulty(f),
-    }
+    count(order, body, PACKING_HEAD, 4)?.packed(order, body)
 }
 
 // Reads a GCF_ body, a frequency for each channel. Malformed: 11 a wrong size, 13 not 1 to 16 channels.
-pub fn gcf(order: Order, body: &[u8]) -> GroupHertzRead
-    ensures { Read result.checked result.hertz no_hertz (gcf order body.now) }
+#[tactic(auto, using(crate::proofs::GroupLaws::counts_first))]
+pub fn gcf(order: Order, body: &[u8]) -> Result<GroupHertz, Fault>
+    ensures { read_said result ≡ gcf order body.now }
 {
-    match count(order, body, 4, 8) {
-        ChannelsRead::Is(n) => GroupHertzRead {
-            checked: Checked::Good,
-            hertz: GroupHertz {
-                n,
-                values: hertz(order, body, n),
-            },
-        },
-        ChannelsRead::Malformed(f) => GroupHertzRead {
-            checked: Checked::Malformed(f),
-            hertz: no_hertz(),
-        },
-    }
-}
-
-fn gains_faulty(f: Fault) -> GroupGainsRead
-    ensures { Read result.checked result.gains no_gains (refuses (fault_number f)) }
-{
-    GroupGainsRead {
-        checked: Checked::Malformed(f),
-        gains: no_gains(),
-    }
-}
-
-// The gains of a body that has the size for n channels.
-fn gains_of(order: Order, body: &[u8], n: usize) -> GroupGainsRead
-    requires { n ≤ 16 }
-    ensures { Read result.checked result.gains no_gains (amplified order body.now n) }
-{
-    if !good_gains(order, body, n) {
-        return gains_faulty(Fault::Value);
-    }
-    GroupGainsRead {
-        checked: Checked::Good,
-        gains: GroupGains {
-            n,
-            values: gains(order, body, n),
-        },
-    }
+    Ok(count(order, body, 4, 8)?.tuned(order, body))
 }
 
 // Reads a GRG_ body, a gain for each channel. Malformed: 11 a wrong size, 13 not 1 to 16 channels, 12 a gain that is
 // not finite.
-pub fn grg(order: Order, body: &[u8]) -> GroupGainsRead
-    ensures { Read result.checked result.gains no_gains (grg order body.now) }
+#[tactic(auto, using(crate::proofs::GroupLaws::counts_first))]
+pub fn grg(order: Order, body: &[u8]) -> Result<GroupGains, Fault>
+    ensures { read_said result ≡ grg order body.now }
 {
-    match count(order, body, 4, 4) {
-        ChannelsRead::Is(n) => gains_of(order, body, n),
-        ChannelsRead::Malformed(f) => gains_faulty(f),
-    }
+    count(order, body, 4, 4)?.amplified(order, body)
 }

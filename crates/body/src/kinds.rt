@@ -3,10 +3,10 @@ ghost use Rattle.std.specs.Prelude.{◌≡◌};
 ghost use Rattle.num.specs.Number.{bytes_of};
 ghost use Rattle.body.specs.Kind.{code_of, kind_of};
 
-use num::Order;
+use num::{Number, Order};
 
 // The 22 kinds, by the letters of their types without the underscores, and every other type.
-#[derive(Clone, Copy)]
+#[derive(Clone, Copy, PartialEq, Eq)]
 pub enum Kind {
     SSNC,
     SSNR,
@@ -103,7 +103,8 @@ pub fn kind_of(code: u32) -> Kind
 
 // The kind of a type, by the whole table. The data types stand here too, though `kind_of` has passed them: with all 22
 // types, and called from two places, this function is too long to be inlined. A compiler that inlined it would make one
-// search tree of these comparisons and of those with the data codes.
+// search tree of these comparisons and of those with the data codes. It is a match, since no `as` makes a kind of a
+// number.
 #[tactic(auto, unfolding(crate::specs::Kind::kind_of, crate::specs::Kind::kind_in, crate::specs::Kind::known))]
 fn any_kind_of(code: u32) -> Kind
     ensures { result ≡ kind_of code }
@@ -135,7 +136,9 @@ fn any_kind_of(code: u32) -> Kind
     }
 }
 
-// The type of a kind; 0 for Unknown, which has none.
+// The type of a kind; 0 for Unknown, which has none (docs/CALLS.md). This and `kind_of` are no `From`: a conversion
+// would not say which number of a kind is meant, nor that several types are Unknown and Unknown has none.
+// The types are no discriminants of `Kind`: its tags would be spread over 32 bits, and each match on a kind a search.
 pub fn code_of(kind: Kind) -> u32
     ensures { result ≡ code_of kind }
 {
@@ -170,5 +173,5 @@ pub fn code_of(kind: Kind) -> u32
 pub fn letters_of(code: u32) -> [u8; 4]
     ensures { result ≡ bytes_of Order.Big 4 code }
 {
-    num::u32_bytes(Order::Big, code)
+    code.bytes(Order::Big)
 }

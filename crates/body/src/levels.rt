@@ -1,11 +1,12 @@
 // The level kinds: dBFS, dBTG, FFS_.
 ghost use Rattle.std.specs.Prelude.{◌≡◌};
 ghost use Rattle.std.specs.Float.{binary32};
-ghost use Rattle.std.specs.Float.Ieee.{to_bits};
-ghost use Rattle.body.specs.Inner.Answers.{float_said};
-ghost use Rattle.body.specs.Levels.{level_said, finite32, dbfs, dbtg, ffs};
+ghost use Rattle.std.specs.Float.Ieee.{of_bits, to_bits};
+ghost use Rattle.body.specs.Fault.{read_said};
+ghost use Rattle.body.specs.Levels.{is_finite, finite32, dbfs, dbtg, ffs};
 
 use crate::faults::Fault;
+use crate::numbers::alone;
 use num::Order;
 
 // A level is one of three kinds, each with a finite number.
@@ -19,73 +20,59 @@ pub enum Level {
     FloatFullScale(f32),
 }
 
-// The level in a body, or what is wrong with the body.
-#[derive(Clone, Copy)]
-pub enum LevelRead {
-    Is(Level),
-    Malformed(Fault),
-}
-
-#[derive(Clone, Copy)]
-enum FloatRead {
-    Is(f32),
-    Malformed(Fault),
-}
-
 // The 32 bits of a float. Every NaN gives 7FC00000, which no level allows.
+#[tactic(auto, using(crate::proofs::Nans::patterns))]
 pub fn pattern(x: f32) -> u32
     ensures { result ≡ to_bits binary32 x }
 {
-    if x == x { f32::to_bits(x) } else { 0x7FC0_0000 }
+    if x.is_nan() { 0x7FC0_0000 } else { x.to_bits() }
+}
+
+// Whether a pattern is of a finite float: with its sign taken off, it is below an infinity's.
+#[tactic(auto, using(crate::proofs::Floats::finite_patterns))]
+// By its bits, since `f32::from_bits` requires that there is no NaN.
+pub(crate) fn is_finite_pattern(p: u32) -> bool
+    ensures { result ≡ is_finite (of_bits binary32 p) }
+{
+    p % 0x8000_0000 < 0x7F80_0000
 }
 
 // The number of a body that is one finite float.
-fn finite(order: Order, body: &[u8]) -> FloatRead
-    ensures { float_said result ≡ finite32 order body.now }
+#[tactic(auto, using(crate::proofs::Floats::finite_patterns))]
+fn finite(order: Order, body: &[u8]) -> Result<f32, Fault>
+    ensures { read_said result ≡ finite32 order body.now }
 {
-    if body.len() != 4 {
-        return FloatRead::Malformed(Fault::Size);
+    let p: u32 = alone(order, body)?;
+    if !is_finite_pattern(p) {
+        return Err(Fault::Value);
     }
-    let p = num::u32_at(order, body, 0);
-    let m = p % 0x8000_0000;
-    if m >= 0x7F80_0000 {
-        return FloatRead::Malformed(Fault::Value);
-    }
-    FloatRead::Is(f32::from_bits(p))
+    Ok(f32::from_bits(p))
 }
 
+// The next two calls differ in the level that they give. They stay two, since docs/CALLS.md lists each by its name.
+
 // Reads a dBFS body. Malformed: 11 unless it has four bytes, 12 unless they are a finite float.
-pub fn dbfs(order: Order, body: &[u8]) -> LevelRead
-    ensures { level_said result ≡ dbfs order body.now }
+pub fn dbfs(order: Order, body: &[u8]) -> Result<Level, Fault>
+    ensures { read_said result ≡ dbfs order body.now }
 {
-    match finite(order, body) {
-        FloatRead::Is(x) => LevelRead::Is(Level::FullScale(x)),
-        FloatRead::Malformed(f) => LevelRead::Malformed(f),
-    }
+    Ok(Level::FullScale(finite(order, body)?))
 }
 
 // Reads a dBTG body. Malformed as dBFS.
-pub fn dbtg(order: Order, body: &[u8]) -> LevelRead
-    ensures { level_said result ≡ dbtg order body.now }
+pub fn dbtg(order: Order, body: &[u8]) -> Result<Level, Fault>
+    ensures { read_said result ≡ dbtg order body.now }
 {
-    match finite(order, body) {
-        FloatRead::Is(x) => LevelRead::Is(Level::TotalGain(x)),
-        FloatRead::Malformed(f) => LevelRead::Malformed(f),
-    }
+    Ok(Level::TotalGain(finite(order, body)?))
 }
 
 // Reads an FFS_ body. Malformed as dBFS, and with 12 also where the float is not above 0.
-pub fn ffs(order: Order, body: &[u8]) -> LevelRead
-    ensures { level_said result ≡ ffs order body.now }
+pub fn ffs(order: Order, body: &[u8]) -> Result<Level, Fault>
+    ensures { read_said result ≡ ffs order body.now }
 {
-    match finite(order, body) {
-        FloatRead::Is(x) => {
-            if 0.0 < x {
-                LevelRead::Is(Level::FloatFullScale(x))
-            } else {
-                LevelRead::Malformed(Fault::Value)
-            }
-        }
-        FloatRead::Malformed(f) => LevelRead::Malformed(f),
+    let x = finite(order, body)?;
+    if 0.0 < x {
+        Ok(Level::FloatFullScale(x))
+    } else {
+        Err(Fault::Value)
     }
 }

@@ -11,15 +11,14 @@ pub mod sampled;
 pub mod values;
 pub mod verdict;
 
-pub use faults::{Checked, Fault};
+pub use faults::Fault;
 pub use groups::{
-    GroupGains, GroupGainsRead, GroupHertz, GroupHertzRead, GroupPacking, GroupPackingRead, gcf,
-    giqp, grg, no_gains, no_hertz, no_packing,
+    GroupGains, GroupHertz, GroupPacking, gcf, giqp, grg, no_gains, no_hertz, no_packing,
 };
 pub use kinds::{Kind, code_of, kind_of, letters_of};
-pub use levels::{Level, LevelRead, dbfs, dbtg, ffs, pattern};
-pub use numbers::{Band, BandRead, NumberRead, bw, bwof, cf, siqp, sofh, sr};
-pub use plain::{TextRead, empty, text};
-pub use sampled::{Data, DataRead, Shape, Shaped, gfnc, gsnc, sfnc, sfnr, shape_of, ssnc, ssnr};
+pub use levels::{Level, dbfs, dbtg, ffs, pattern};
+pub use numbers::{Band, bw, bwof, cf, siqp, sofh, sr};
+pub use plain::{empty, text};
+pub use sampled::{Data, Shape, gfnc, gsnc, sfnc, sfnr, shape_of, ssnc, ssnr};
 pub use values::{BandHeld, Held, LevelHeld, no_band, no_level, no_number};
 pub use verdict::check;

@@ -2,6 +2,10 @@
 ghost use Rattle.std.specs.Prelude.{◌≡◌};
 ghost use Rattle.body.specs.Values.{no_number, no_band, no_level};
 
+// These types keep a flag with a value beside it and open fields: a state is a plain value, which a caller may give as
+// no chunks leave it, as `Held { present: false, value: 1 }`, and number 3 refuses it (crates/trials/src/states.rt).
+// Held and LevelHeld are two types, since docs/CALLS.md and specs/Table.antt name each.
+
 // A whole number that a chunk set, or 0 where it is absent.
 #[derive(Clone, Copy)]
 pub struct Held {
@@ -23,6 +27,8 @@ pub struct LevelHeld {
     pub present: bool,
     pub value: f32,
 }
+
+// The next three calls differ in their types alone. They stay three, since docs/CALLS.md lists each by its name.
 
 // An absent number.
 pub fn no_number() -> Held

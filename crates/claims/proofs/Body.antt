@@ -1,7 +1,7 @@
 -- A checker's verdict and the value that it reads are one answer.
 use mathlib.Core.Path.{sym, ◌∙◌}
 use Rattle.claims.proofs.Promise.{OneAnswer}
-use Rattle.claims.proofs.Told.{number-told, band-told, level-told, data-told, text-told, checked-told, read-checked, read-value}
+use Rattle.claims.proofs.Told.{read-told}
 use Rattle.body.proofs.sampled.gfnc.Reads as gfnc
 use Rattle.body.proofs.sampled.gsnc.Reads as gsnc
 use Rattle.body.proofs.sampled.sfnc.Reads as sfnc
@@ -12,7 +12,7 @@ use Rattle.body.proofs.values.no_number.Reads as no_number
 use Rattle.body.proofs.values.no_band.Reads as no_band
 use Rattle.body.proofs.values.no_level.Reads as no_level
 use Rattle.body.proofs.sampled.shape_of.Reads as shape_of
-use Rattle.body.proofs.faults.Fault.number.Reads as number
+use Rattle.body.proofs.faults.FaultNumbered.number.Reads as number
 use Rattle.body.proofs.groups.gcf.Reads as gcf
 use Rattle.body.proofs.groups.giqp.Reads as giqp
 use Rattle.body.proofs.groups.grg.Reads as grg
@@ -63,69 +63,67 @@ pattern-one-answer κs a r r' s s' p q = p ∙ sym q
 -- an answer that means what a rule says
 
 pub siqp-one-answer : OneAnswer siqp.Post
-siqp-one-answer κs a r r' s s' p q = number-told r r' (p ∙ sym q)
+siqp-one-answer κs a r r' s s' p q = read-told r r' (p ∙ sym q)
 
 pub sofh-one-answer : OneAnswer sofh.Post
-sofh-one-answer κs a r r' s s' p q = number-told r r' (p ∙ sym q)
+sofh-one-answer κs a r r' s s' p q = read-told r r' (p ∙ sym q)
 
 pub sr-one-answer : OneAnswer sr.Post
-sr-one-answer κs a r r' s s' p q = number-told r r' (p ∙ sym q)
+sr-one-answer κs a r r' s s' p q = read-told r r' (p ∙ sym q)
 
 pub bw-one-answer : OneAnswer bw.Post
-bw-one-answer κs a r r' s s' p q = number-told r r' (p ∙ sym q)
+bw-one-answer κs a r r' s s' p q = read-told r r' (p ∙ sym q)
 
 pub cf-one-answer : OneAnswer cf.Post
-cf-one-answer κs a r r' s s' p q = number-told r r' (p ∙ sym q)
+cf-one-answer κs a r r' s s' p q = read-told r r' (p ∙ sym q)
 
 pub bwof-one-answer : OneAnswer bwof.Post
-bwof-one-answer κs a r r' s s' p q = band-told r r' (p ∙ sym q)
+bwof-one-answer κs a r r' s s' p q = read-told r r' (p ∙ sym q)
 
 pub dbfs-one-answer : OneAnswer dbfs.Post
-dbfs-one-answer κs a r r' s s' p q = level-told r r' (p ∙ sym q)
+dbfs-one-answer κs a r r' s s' p q = read-told r r' (p ∙ sym q)
 
 pub dbtg-one-answer : OneAnswer dbtg.Post
-dbtg-one-answer κs a r r' s s' p q = level-told r r' (p ∙ sym q)
+dbtg-one-answer κs a r r' s s' p q = read-told r r' (p ∙ sym q)
 
 pub ffs-one-answer : OneAnswer ffs.Post
-ffs-one-answer κs a r r' s s' p q = level-told r r' (p ∙ sym q)
+ffs-one-answer κs a r r' s s' p q = read-told r r' (p ∙ sym q)
 
 pub ssnc-one-answer : OneAnswer ssnc.Post
-ssnc-one-answer κs a r r' s s' p q = data-told r r' (p ∙ sym q)
+ssnc-one-answer κs a r r' s s' p q = read-told r r' (p ∙ sym q)
 
 pub ssnr-one-answer : OneAnswer ssnr.Post
-ssnr-one-answer κs a r r' s s' p q = data-told r r' (p ∙ sym q)
+ssnr-one-answer κs a r r' s s' p q = read-told r r' (p ∙ sym q)
 
 pub sfnc-one-answer : OneAnswer sfnc.Post
-sfnc-one-answer κs a r r' s s' p q = data-told r r' (p ∙ sym q)
+sfnc-one-answer κs a r r' s s' p q = read-told r r' (p ∙ sym q)
 
 pub sfnr-one-answer : OneAnswer sfnr.Post
-sfnr-one-answer κs a r r' s s' p q = data-told r r' (p ∙ sym q)
+sfnr-one-answer κs a r r' s s' p q = read-told r r' (p ∙ sym q)
 
 pub gsnc-one-answer : OneAnswer gsnc.Post
-gsnc-one-answer κs a r r' s s' p q = data-told r r' (p ∙ sym q)
+gsnc-one-answer κs a r r' s s' p q = read-told r r' (p ∙ sym q)
 
 pub gfnc-one-answer : OneAnswer gfnc.Post
-gfnc-one-answer κs a r r' s s' p q = data-told r r' (p ∙ sym q)
+gfnc-one-answer κs a r r' s s' p q = read-told r r' (p ∙ sym q)
 
 pub text-one-answer : OneAnswer text.Post
-text-one-answer κs a r r' s s' p q = text-told r r' (p ∙ sym q)
+text-one-answer κs a r r' s s' p q = read-told r r' (p ∙ sym q)
 
 pub empty-one-answer : OneAnswer empty.Post
-empty-one-answer κs a r r' s s' p q = checked-told r r' tt tt (p ∙ sym q)
+empty-one-answer κs a r r' s s' p q = read-told r r' (p ∙ sym q)
 
 pub check-one-answer : OneAnswer check.Post
-check-one-answer κs a r r' s s' p q = checked-told r r' tt tt (p ∙ sym q)
-
--- an answer with its value beside it
+check-one-answer κs a r r' s s' p q = read-told r r' (p ∙ sym q)
 
 pub giqp-one-answer : OneAnswer giqp.Post
-giqp-one-answer κs a r r' s s' p q = λ i. record { checked = read-checked p q i; packing = read-value p q i }
+giqp-one-answer κs a r r' s s' p q = read-told r r' (p ∙ sym q)
 
 pub gcf-one-answer : OneAnswer gcf.Post
-gcf-one-answer κs a r r' s s' p q = λ i. record { checked = read-checked p q i; hertz = read-value p q i }
+gcf-one-answer κs a r r' s s' p q = read-told r r' (p ∙ sym q)
 
 pub grg-one-answer : OneAnswer grg.Post
-grg-one-answer κs a r r' s s' p q = λ i. record { checked = read-checked p q i; gains = read-value p q i }
+grg-one-answer κs a r r' s s' p q = read-told r r' (p ∙ sym q)
 
 pub no-number-one-answer : OneAnswer no_number.Post
 no-number-one-answer κs a r r' s s' p q = p ∙ sym q

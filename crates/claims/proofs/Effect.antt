@@ -5,8 +5,8 @@ use Rattle.effect.proofs.effects.take.Reads as take
 use Rattle.claims.proofs.Promise.{OneAnswer}
 use Rattle.claims.proofs.Told.{asked-told}
 use Rattle.reader.proofs.Told.{verdict-told}
-use Rattle.effect.proofs.Lack.number.Reads as lack_number
-use Rattle.effect.proofs.Verdict.number.Reads as verdict_number
+use Rattle.effect.proofs.LackNumbered.number.Reads as lack_number
+use Rattle.effect.proofs.VerdictNumbered.number.Reads as verdict_number
 
 pub take-one-answer : OneAnswer take.Post
 take-one-answer κs a r r' s s' p q =

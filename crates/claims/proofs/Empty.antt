@@ -9,6 +9,7 @@ use lib.Ieee.{binary32, of_bits, to_bits, lt}
 use lib.IntN.{pos, negsuc}
 use lib.ListN.{length, drop}
 use lib.Seq.{drop-drop}
+use Rattle.std.specs.Prelude.{Result, Ok, Err}
 use Rattle.num.specs.Answer.{gives}
 use Rattle.num.specs.Choice.{each}
 use Rattle.num.specs.declared.Order.{Order}
@@ -16,7 +17,7 @@ use Rattle.num.specs.declared.Order.TheVariants.{Big}
 use Rattle.frame.specs.Frames.{frames}
 use Rattle.frame.specs.Place.{sync_bytes, starts, shows}
 use Rattle.frame.specs.declared.At.TheVariants.{Complete}
-use Rattle.frame.specs.declared.OrderFound.TheVariants.{Neither}
+use Rattle.frame.specs.declared.NoSyncWord.{NoSyncWord}
 use Rattle.frame.proofs.Theorems.{order-refused}
 use Rattle.frame.proofs.find_order.Reads as find_order
 use Rattle.body.specs.Kind.{known, kind_in, kind_of}
@@ -42,23 +43,20 @@ use Rattle.reader.proofs.Laws.{step-accepts, chunk-size}
 use Rattle.reader.proofs.Theorems.{goes}
 use Rattle.reader.proofs.count.Reads as count
 use Rattle.writer.specs.Write.{may_write}
-use Rattle.writer.specs.declared.Written.{Written}
-use Rattle.writer.specs.declared.Written.TheVariants.{Next}
+use Rattle.writer.specs.declared.Unwritten.{Unwritten}
 use Rattle.writer.proofs.Laws.{written}
 use Rattle.writer.proofs.Theorems.{written-told}
 use Rattle.writer.proofs.write.Reads as write
 use Rattle.samples.specs.Copy.{layout_at, count_of}
 use Rattle.samples.specs.Layout.{numbers}
-use Rattle.samples.specs.declared.Copied.{Copied}
-use Rattle.samples.specs.declared.Copied.TheVariants.{Count}
 use Rattle.samples.specs.declared.Layout.{Layout}
+use Rattle.samples.specs.declared.Uncopied.{Uncopied}
 use Rattle.samples.proofs.Ready.{bytes_in, effect-ready}
 use Rattle.samples.proofs.Theorems.{copied-told, count-given}
 use Rattle.samples.proofs.patterns.patterns_at.Reads as patterns
 use Rattle.samples.proofs.shorts.shorts_at.Reads as shorts
 use Rattle.filecheck.specs.Due.{GoodFile}
-use Rattle.filecheck.specs.declared.FileChecked.{FileChecked}
-use Rattle.filecheck.specs.declared.FileChecked.TheVariants.{Good}
+use Rattle.filecheck.specs.declared.BadFile.{BadFile}
 use Rattle.filecheck.proofs.Theorems.{good-exactly}
 use Rattle.filecheck.proofs.check.Reads as check
 use Rattle.ending.proofs.Calls.{StepCall, StepOn}
@@ -94,18 +92,18 @@ no-lost-chunk κs a r code size h l f e i =
     idle-said r.item i (h.1.item ∙ ap (λ (x : Step). x.item) t)
 
 -- No stream in which a sync word stands is refused an order.
-pub no-refused-order : (κs : Lfts 1) (a : _) → Allows find_order.Post κs a Neither → (o : Order) (p : ℕ) → p < length a.0.now → starts (sync_bytes o) (drop p a.0.now) ≡ true → ⊥
-no-refused-order κs a h o p l e =
-    let w : true ≡ false = sym e ∙ (order-refused a.0.now 1 (sym h.1)).1 p o l in
+pub no-refused-order : (κs : Lfts 1) (a : _) (e : NoSyncWord) → Allows find_order.Post κs a (Err e) → (o : Order) (p : ℕ) → p < length a.0.now → starts (sync_bytes o) (drop p a.0.now) ≡ true → ⊥
+no-refused-order κs a e h o p l t =
+    let w : true ≡ false = sym t ∙ (order-refused a.0.now 1 (sym h.1)).1 p o l in
     let z : ◌≡◌ {A = ℕ} 0 1 = cc in absurd (omega arith)
 
 -- No record that may be written, and for which there is room, is refused.
-pub no-refused-record : (κs : Lfts 2) (a : _) (r : Written) → Allows write.Post κs a r → may_write a.0 a.1.0 a.1.1.0.now ≡ gives tt →
-    a.1.1.1.1.0 + 12 + length a.1.1.0.now ≤ length a.1.1.1.0.now → r ≡ Next (a.1.1.1.1.0 + 12 + length a.1.1.0.now)
+pub no-refused-record : (κs : Lfts 2) (a : _) (r : Result ℕ Unwritten) → Allows write.Post κs a r → may_write a.0 a.1.0 a.1.1.0.now ≡ gives tt →
+    a.1.1.1.1.0 + 12 + length a.1.1.0.now ≤ length a.1.1.1.0.now → r ≡ Ok (a.1.1.1.1.0 + 12 + length a.1.1.0.now)
 no-refused-record κs a r h e l = written-told r _ (h.1.0 ∙ written a.0 a.1.0 a.1.1.0.now (length a.1.1.1.0.now) a.1.1.1.1.0 e l)
 
 -- No good file is refused.
-pub no-refused-file : (κs : Lfts 1) (a : _) (r : FileChecked) → Allows check.Post κs a r → GoodFile a.0 (frames a.0 a.1.0.now) → r ≡ Good (length (items a.0 a.1.0.now))
+pub no-refused-file : (κs : Lfts 1) (a : _) (r : Result ℕ BadFile) → Allows check.Post κs a r → GoodFile a.0 (frames a.0 a.1.0.now) → r ≡ Ok (length (items a.0 a.1.0.now))
 no-refused-file κs a r h g = (good-exactly κs a r h.0 h.1 (length (items a.0 a.1.0.now))).1 (g, refl)
 
 -- ---- one and the same item for every stream
@@ -124,13 +122,13 @@ pub no-resting-cursor : (κs : Lfts 1) (a : _) (r : Stepped) → Allows step.Pos
 no-resting-cursor κs a r h l f = rw h.1.cursor (goes a.1.0 a.1.1.0.now a.0 f l).on
 
 -- Where a channel's numbers lie in the chunk at the cursor and the slice has room for them, all of them are counted.
-pub no-lost-shorts : (κs : Lfts 2) (a : _) (r : Copied) (l : Layout) → Allows shorts.Post κs a r → layout_at false a.0 a.1.0.now a.1.1.0 a.1.1.1.0 ≡ gives l →
-    numbers l ≤ length a.1.1.1.1.0.now → r ≡ Count (numbers l)
-no-lost-shorts κs a r l h e m = copied-told r (Count (numbers l)) (h.1.0 ∙ count-given false a.0 a.1.0.now a.1.1.0 a.1.1.1.0 (length a.1.1.1.1.0.now) l e m)
+pub no-lost-shorts : (κs : Lfts 2) (a : _) (r : Result ℕ Uncopied) (l : Layout) → Allows shorts.Post κs a r → layout_at false a.0 a.1.0.now a.1.1.0 a.1.1.1.0 ≡ gives l →
+    numbers l ≤ length a.1.1.1.1.0.now → r ≡ Ok (numbers l)
+no-lost-shorts κs a r l h e m = copied-told r (Ok (numbers l)) (h.1.0 ∙ count-given false a.0 a.1.0.now a.1.1.0 a.1.1.1.0 (length a.1.1.1.1.0.now) l e m)
 
-pub no-lost-patterns : (κs : Lfts 2) (a : _) (r : Copied) (l : Layout) → Allows patterns.Post κs a r → layout_at true a.0 a.1.0.now a.1.1.0 a.1.1.1.0 ≡ gives l →
-    numbers l ≤ length a.1.1.1.1.0.now → r ≡ Count (numbers l)
-no-lost-patterns κs a r l h e m = copied-told r (Count (numbers l)) (h.1.0 ∙ count-given true a.0 a.1.0.now a.1.1.0 a.1.1.1.0 (length a.1.1.1.1.0.now) l e m)
+pub no-lost-patterns : (κs : Lfts 2) (a : _) (r : Result ℕ Uncopied) (l : Layout) → Allows patterns.Post κs a r → layout_at true a.0 a.1.0.now a.1.1.0 a.1.1.1.0 ≡ gives l →
+    numbers l ≤ length a.1.1.1.1.0.now → r ≡ Ok (numbers l)
+no-lost-patterns κs a r l h e m = copied-told r (Ok (numbers l)) (h.1.0 ∙ count-given true a.0 a.1.0.now a.1.1.0 a.1.1.1.0 (length a.1.1.1.1.0.now) l e m)
 
 -- ---- an invented item or sample count
 
@@ -157,15 +155,15 @@ abbrev pub knowing : Cursor
 knowing = cursor_at 0 true (with_values (emptied false) (set_in Slot.rate (record { present = true; value = pos 1 }) (set_in Slot.packing (record { present = true; value = pos 1 }) (built none))))
 
 -- a copy of channel 0 into a slice of two numbers may give this answer
-abbrev pub Copies : Lfts 2 → Copied → Type 0
+abbrev pub Copies : Lfts 2 → Result ℕ Uncopied → Type 0
 Copies κs r = Allows shorts.Post κs (Big, (lent pair, (knowing, (0, (lent_to_fill (pos 0 ∷ pos 0 ∷ []), tt))))) r
 
 -- the count is 2, not 0 and no other, and the two numbers are copied
-pub no-other-count : (κs : Lfts 2) (r : Copied) → Copies κs r → r ≡ Count 2
+pub no-other-count : (κs : Lfts 2) (r : Result ℕ Uncopied) → Copies κs r → r ≡ Ok 2
 unfolding count_of layout_at shaped step_of good_held good_numbers good_from each upto of_bits to_bits shows starts kind_of kind_in known effect
-no-other-count κs r h = copied-told r (Count 2) h.1.0
+no-other-count κs r h = copied-told r (Ok 2) h.1.0
 
-pub no-other-samples : (κs : Lfts 2) (r : Copied) (h : Copies κs r) → h.0.1.1.1.1.0.now ≡ pos 1 ∷ negsuc 0 ∷ []
+pub no-other-samples : (κs : Lfts 2) (r : Result ℕ Uncopied) (h : Copies κs r) → h.0.1.1.1.1.0.now ≡ pos 1 ∷ negsuc 0 ∷ []
 unfolding count_of layout_at pairs_of shaped step_of good_held good_numbers good_from each upto of_bits to_bits shows starts kind_of kind_in known effect
 no-other-samples κs r h = h.1.1
 
@@ -176,7 +174,7 @@ float = whole 0x53 0x46 0x4E 0x52 (0 ∷ 0 ∷ 0 ∷ 0 ∷ 0 ∷ 0 ∷ 0 ∷ 5 �
 abbrev pub scaled : Cursor
 scaled = cursor_at 0 true (with_values (emptied false) (set_in Slot.float_scale (record { present = true; value = of_bits binary32 0x3F800000 }) (set_in Slot.rate (record { present = true; value = pos 1 }) (built none))))
 
-pub no-lost-pattern : (κs : Lfts 2) (r : Copied) (h : Allows patterns.Post κs (Big, (lent float, (scaled, (0, (lent_to_fill (0 ∷ []), tt))))) r) →
-    (r ≡ Count 1) × (h.0.1.1.1.1.0.now ≡ 0x7FC00001 ∷ [])
+pub no-lost-pattern : (κs : Lfts 2) (r : Result ℕ Uncopied) (h : Allows patterns.Post κs (Big, (lent float, (scaled, (0, (lent_to_fill (0 ∷ []), tt))))) r) →
+    (r ≡ Ok 1) × (h.0.1.1.1.1.0.now ≡ 0x7FC00001 ∷ [])
 unfolding count_of layout_at reals_of shaped step_of good_held good_numbers good_from each upto of_bits to_bits lt shows starts kind_of kind_in known effect
-no-lost-pattern κs r h = (copied-told r (Count 1) h.1.0, h.1.1)
+no-lost-pattern κs r h = (copied-told r (Ok 1) h.1.0, h.1.1)

@@ -3,7 +3,7 @@ use mathlib.Core.Path.{sym, ◌∙◌}
 use Rattle.filecheck.proofs.Theorems.{file-told}
 use Rattle.filecheck.proofs.check.Reads as check
 use Rattle.claims.proofs.Promise.{OneAnswer}
-use Rattle.filecheck.proofs.FileChecked.number.Reads as number
+use Rattle.filecheck.proofs.BadFileNumbered.number.Reads as number
 
 pub check-one-answer : OneAnswer check.Post
 check-one-answer κs a r r' s s' p q = file-told r r' (p ∙ sym q)

@@ -7,7 +7,7 @@ use Rattle.frame.proofs.good_size.Reads as good_size
 use Rattle.frame.proofs.look.Reads as look
 use Rattle.frame.proofs.search.Reads as search
 use Rattle.claims.proofs.Promise.{OneAnswer}
-use Rattle.frame.proofs.OrderFound.number.Reads as number
+use Rattle.frame.proofs.NoSyncWordNumbered.number.Reads as number
 
 pub good-size-one-answer : OneAnswer good_size.Post
 good-size-one-answer κs a r r' s s' p q = p ∙ sym q

@@ -8,31 +8,29 @@ use native.Mathlib.Omega.{arith}
 use borrow.Author.Tests.{not-true, eqb-true}
 use lib.Dec.{eqb}
 use lib.ListN.{length}
+use Rattle.std.specs.Prelude.{Result, Ok, Err}
 use Rattle.num.specs.Answer.{Answer, gives, refuses, reply_with, then}
 use Rattle.num.specs.declared.Order.{Order}
 use Rattle.bench.specs.Plain.{order_by}
 use Rattle.bench.proofs.bench_patterns.Reads as bench_patterns_reads
 use Rattle.bench.proofs.bench_shorts.Reads as bench_shorts_reads
 use Rattle.bench.proofs.bench_write.Reads as bench_write_reads
-use Rattle.copy.proofs.pattern_pairs.Reads as pattern_pairs
-use Rattle.copy.proofs.pattern_reals.Reads as pattern_reals
-use Rattle.copy.proofs.short_pairs.Reads as short_pairs
-use Rattle.copy.proofs.short_reals.Reads as short_reals
+use Rattle.copy.proofs.sample.U32Sample.pairs.Reads as pattern_pairs
+use Rattle.copy.proofs.sample.U32Sample.reals.Reads as pattern_reals
+use Rattle.copy.proofs.sample.I16Sample.pairs.Reads as short_pairs
+use Rattle.copy.proofs.sample.I16Sample.reals.Reads as short_reals
 use Rattle.lay.proofs.bytes.Reads as bytes
-use Rattle.lay.proofs.runs.longs.Reads as longs
-use Rattle.lay.proofs.runs.shorts.Reads as shorts
-use Rattle.lay.proofs.runs.words.Reads as words
-use Rattle.lister.specs.Listed.{listed}
-use Rattle.lister.specs.declared.Listed.{Listed}
-use Rattle.lister.specs.declared.Listed.TheVariants.{Laid, Needs}
+use Rattle.lay.proofs.run.Reads as run
+use Rattle.lister.specs.Listed.{needs, listed}
+use Rattle.lister.specs.declared.Needs.{Needs}
 use Rattle.lister.proofs.Theorems.{needs-told}
 use Rattle.lister.proofs.Promises.{lay-no-room}
 use Rattle.lister.proofs.lay.Reads as listing
 use Rattle.reader.specs.Step.{new_cursor, after}
 use Rattle.reader.specs.declared.Cursor.{Cursor}
 use Rattle.samples.specs.Copy.{copied_said, copied_reply, layout_at, count_within, count_of, filled}
-use Rattle.samples.specs.declared.Copied.{Copied}
 use Rattle.samples.specs.declared.Layout.{Layout}
+use Rattle.samples.specs.declared.Uncopied.{Uncopied}
 use Rattle.samples.proofs.First.{first-numbers}
 use Rattle.samples.proofs.patterns.patterns_at.Reads as patterns_at_reads
 use Rattle.samples.proofs.patterns.patterns_of.Reads as patterns_of_reads
@@ -53,7 +51,7 @@ use Rattle.typed.proofs.number.sofh.Reads as sofh
 use Rattle.typed.proofs.number.sr.Reads as sr
 use Rattle.typed.proofs.plain.text.Reads as text
 use Rattle.writer.specs.Write.{write_of, written_out, written_said, written_reply}
-use Rattle.writer.specs.declared.Written.{Written}
+use Rattle.writer.specs.declared.Unwritten.{Unwritten}
 use Rattle.writer.proofs.Laws.{next-given, written}
 use Rattle.writer.proofs.patterns.gfnc.Reads as gfnc
 use Rattle.writer.proofs.patterns.sfnc.Reads as sfnc
@@ -62,6 +60,7 @@ use Rattle.writer.proofs.shorts.gsnc.Reads as gsnc
 use Rattle.writer.proofs.shorts.ssnc.Reads as ssnc
 use Rattle.writer.proofs.shorts.ssnr.Reads as ssnr
 use Rattle.writer.proofs.write.Reads as write
+use Rattle.claims.proofs.Promise.{NumberType}
 
 -- an answer is a refusal
 abbrev pub is_refusal : {A : Type 0} → Answer A → Bool
@@ -69,20 +68,19 @@ is_refusal (gives a) = false
 is_refusal (refuses n) = true
 
 -- the answer says that there is no room for the listing
-abbrev pub is_need : Listed → Bool
-is_need (Laid n) = false
-is_need (Needs n) = true
+abbrev pub is_need : Result ℕ Needs → Bool
+is_need (Ok n) = false
+is_need (Err e) = true
 
 -- whatever meets a promise with an answer that refuses leaves in the slice what it held
 abbrev pub Leaves : {K B : Type 0} {A R S : K → Type 0} → ((κs : K) → A κs → R κs → S κs → Type 0) → ((κs : K) → R κs → Bool) → ((κs : K) → A κs → B) → ((κs : K) → S κs → B) → Type 0
 Leaves {K} {B} {A} {R} {S} Post refused held left = (κs : K) (a : A κs) (r : R κs) (s : S κs) → Post κs a r s → refused κs r ≡ true → left κs s ≡ held κs a
 
--- the calls that are lent a slice to fill, by crate: lay, copy, samples, writer, typed, lister, bench
-pub data Lent : Type 0 where
+-- the calls that are lent a slice to fill, by crate: lay, copy, samples, writer, typed, lister, bench. lay_run stands for a call
+-- with each type of numbers.
+pub data Lent : Type 2 where
   lay_bytes : Lent
-  lay_shorts : Lent
-  lay_words : Lent
-  lay_longs : Lent
+  lay_run : NumberType → Lent
   copy_short_pairs : Lent
   copy_pattern_pairs : Lent
   copy_short_reals : Lent
@@ -117,14 +115,12 @@ pub data Lent : Type 0 where
   bench_shorts : Lent
   bench_patterns : Lent
 
--- What counts as a refusal: false in lay and copy, Needs in lister, 0 in bench, and elsewhere an answer that has a number.
+-- What counts as a refusal: false in lay and copy, Err in lister, 0 in bench, and elsewhere an answer that has a number.
 abbrev pub LeavesLent : Lent → Type 0
 LeavesLent lay_bytes = Leaves bytes.Post (λ κs r. not r) (λ κs a. a.1.0.now) (λ κs s. s.1.0.now)
-LeavesLent lay_shorts = Leaves shorts.Post (λ κs r. not r) (λ κs a. a.1.1.0.now) (λ κs s. s.1.1.0.now)
-LeavesLent lay_words = Leaves words.Post (λ κs r. not r) (λ κs a. a.1.1.0.now) (λ κs s. s.1.1.0.now)
-LeavesLent lay_longs = Leaves longs.Post (λ κs r. not r) (λ κs a. a.1.1.0.now) (λ κs s. s.1.1.0.now)
-LeavesLent copy_short_pairs = Leaves short_pairs.Post (λ κs r. not r) (λ κs a. a.1.1.1.1.1.1.1.0.now) (λ κs s. s.1.1.1.1.1.1.1.0.now)
-LeavesLent copy_pattern_pairs = Leaves pattern_pairs.Post (λ κs r. not r) (λ κs a. a.1.1.1.1.1.1.1.0.now) (λ κs s. s.1.1.1.1.1.1.1.0.now)
+LeavesLent (lay_run x) = Leaves (run.Post x.n x.T x.fits x.laws x.copy x.ghosts x.dict x.clone x.clone_dict) (λ κs r. not r) (λ κs a. a.1.1.0.now) (λ κs s. s.1.1.0.now)
+LeavesLent copy_short_pairs = Leaves short_pairs.Post (λ κs r. not r) (λ κs a. a.1.1.1.1.0.now) (λ κs s. s.1.1.1.1.0.now)
+LeavesLent copy_pattern_pairs = Leaves pattern_pairs.Post (λ κs r. not r) (λ κs a. a.1.1.1.1.0.now) (λ κs s. s.1.1.1.1.0.now)
 LeavesLent copy_short_reals = Leaves short_reals.Post (λ κs r. not r) (λ κs a. a.1.1.1.1.0.now) (λ κs s. s.1.1.1.1.0.now)
 LeavesLent copy_pattern_reals = Leaves pattern_reals.Post (λ κs r. not r) (λ κs a. a.1.1.1.1.0.now) (λ κs s. s.1.1.1.1.0.now)
 LeavesLent shorts_at = Leaves shorts_at_reads.Post (λ κs r. is_refusal (copied_said r)) (λ κs a. a.1.1.1.1.0.now) (λ κs s. s.1.1.1.1.0.now)
@@ -167,9 +163,9 @@ refuses-by (refuses n) k = (n, refl)
 rule-refuses : {A : Type 0} {a : Answer A} (w : Answer A) → a ≡ w → is_refusal a ≡ true → (n : ℕ) × (w ≡ refuses n)
 rule-refuses w e k = refuses-by w (ap is_refusal (sym e) ∙ k)
 
-needs-by : (r : Listed) → is_need r ≡ true → (n : ℕ) × (r ≡ Needs n)
-needs-by (Laid n) k = let z : ◌≡◌ {A = ℕ} 0 1 = cc in absurd (omega arith)
-needs-by (Needs n) k = (n, refl)
+needs-by : (r : Result ℕ Needs) → is_need r ≡ true → (n : ℕ) × (r ≡ needs n)
+needs-by (Ok n) k = let z : ◌≡◌ {A = ℕ} 0 1 = cc in absurd (omega arith)
+needs-by (Err e) k = (e.0, refl)
 
 -- where a record is written the next place is not 0, so a 0 says that none is
 next-some : (o : Order) (code : ℕ) (body : List ℕ) (whole place next : ℕ) → write_of o code body whole place ≡ gives next → 0 < next
@@ -197,9 +193,7 @@ zero-counted float o s c channel value was is h z = zero-copied value was is (la
 -- A call that refuses leaves the slice as it was, for each of them.
 pub refused-leaves : (f : Lent) → LeavesLent f
 refused-leaves lay_bytes = λ κs a r s p k. rw (sym p.0 ∙ not-true r k) at p.1
-refused-leaves lay_shorts = λ κs a r s p k. rw (sym p.0 ∙ not-true r k) at p.1
-refused-leaves lay_words = λ κs a r s p k. rw (sym p.0 ∙ not-true r k) at p.1
-refused-leaves lay_longs = λ κs a r s p k. rw (sym p.0 ∙ not-true r k) at p.1
+refused-leaves (lay_run x) = λ κs a r s p k. rw (sym p.0 ∙ not-true r k) at p.1
 refused-leaves copy_short_pairs = λ κs a r s p k. rw (not-true r k) at p.1
 refused-leaves copy_pattern_pairs = λ κs a r s p k. rw (not-true r k) at p.1
 refused-leaves copy_short_reals = λ κs a r s p k. rw (not-true r k) at p.1
@@ -239,9 +233,9 @@ refused-leaves bench_patterns = λ κs a r s p k. zero-counted true (order_by a.
 -- ---- what goes with a refusal
 
 -- The count of a copy that refuses is 0.
-pub refused-count : (r : Copied) → is_refusal (copied_said r) ≡ true → (copied_reply r).value ≡ 0
+pub refused-count : (r : Result ℕ Uncopied) → is_refusal (copied_said r) ≡ true → (copied_reply r).value ≡ 0
 refused-count r k = ap (λ (a : Answer ℕ). (reply_with 0 a).value) (refuses-by (copied_said r) k).1
 
 -- The place of a write that refuses is the place as it came.
-pub refused-place : (r : Written) (came : ℕ) → is_refusal (written_said r) ≡ true → (written_reply came r).value ≡ came
+pub refused-place : (r : Result ℕ Unwritten) (came : ℕ) → is_refusal (written_said r) ≡ true → (written_reply came r).value ≡ came
 refused-place r came k = ap (λ (a : Answer ℕ). (reply_with came a).value) (refuses-by (written_said r) k).1

@@ -1,4 +1,5 @@
 pub mod Promise
+pub mod Numbers
 pub mod Told
 pub mod Num
 pub mod Frame

@@ -1,9 +1,17 @@
 -- What it is that a promise leaves one answer. Post is a function's own promise, of its arguments, its answer and what
 -- stands in its parameters at the end.
+use Prim.Native.Nat.{ℕ}
 use mathlib.Core.Path.{◌≡◌, sym, ◌∙◌}
 use mathlib.Core.List.{List}
-use denote.Ref.{Bor}
 use denote.MutBor.{MutBor}
+use denote.Param.{number, value_of}
+use denote.Param.Laws.{Laws, IsCopy}
+use denote.RattleType.{RattleType}
+use denote.Ref.{Bor}
+use mir.Syntax.{Dict, w64}
+use mir.Val.{Fits}
+use Rattle.std.specs.declared.clone.Clone.{Ghosts as CloneGhosts}
+use Rattle.num.specs.declared.number.Number.{Ghosts}
 
 -- two answers to the same arguments are equal
 abbrev pub OneAnswer : {K : Type 0} {A R S : K → Type 0} → ((κs : K) → A κs → R κs → S κs → Type 0) → Type 0
@@ -35,3 +43,15 @@ lent l = record { ref_ptr = (0, 0); now = l }
 -- one that is lent to be filled
 abbrev pub lent_to_fill : {X : Type 0} → List X → MutBor (List X)
 lent_to_fill l = record { ref_ptr = (0, 0); ghost_name = 0; now = l }
+
+-- a type of numbers of n bytes, as it comes to code that is generic over num::Number
+pub record NumberType : Type 2 where
+  pub T : RattleType
+  pub n : ℕ
+  pub laws : Laws T
+  pub fits : Fits w64 n
+  pub copy : IsCopy T
+  pub ghosts : Ghosts T.Denot (value_of (number n))
+  pub dict : Dict
+  pub clone : CloneGhosts T.Denot
+  pub clone_dict : Dict

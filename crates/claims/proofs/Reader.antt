@@ -8,7 +8,7 @@ use Rattle.reader.proofs.count.Reads as count
 use Rattle.reader.proofs.rows_for.Reads as rows_for
 use Rattle.reader.proofs.Told.{item-told}
 use Rattle.claims.proofs.Promise.{OneAnswer, OnePart}
-use Rattle.reader.proofs.Item.number.Reads as number
+use Rattle.reader.proofs.ItemNumbered.number.Reads as number
 use Rattle.reader.proofs.part.body_of.Reads as body_of
 
 pub new-one-answer : OneAnswer new.Post

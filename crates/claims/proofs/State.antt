@@ -8,6 +8,7 @@ use Rattle.state.proofs.State.with_mark.Reads as with_mark
 use Rattle.state.proofs.Values.with_total_gain.Reads as with_total_gain
 use Rattle.state.proofs.Values.with_gains.Reads as with_gains
 use Rattle.state.proofs.Values.good_values.Reads as good_values
+use Rattle.state.proofs.Values.is_good.Reads as is_good
 use Rattle.state.proofs.good.good_lists.Reads as good_lists
 use Rattle.state.proofs.good.good_frequencies.Reads as good_frequencies
 use Rattle.state.proofs.sums.no_sums.Reads as no_sums
@@ -36,6 +37,9 @@ no-sums-one-answer κs a r r' s s' p q = p ∙ sym q
 
 pub good-values-one-answer : OneAnswer good_values.Post
 good-values-one-answer κs a r r' s s' p q = p ∙ sym q
+
+pub is-good-one-answer : OneAnswer is_good.Post
+is-good-one-answer κs a r r' s s' p q = p ∙ sym q
 
 pub good-lists-one-answer : OneAnswer good_lists.Post
 good-lists-one-answer κs a r r' s s' p q = p ∙ sym q

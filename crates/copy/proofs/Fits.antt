@@ -3,7 +3,7 @@ use Prim.Native.Nat.{ℕ, ◌+◌, ◌-◌, ◌*◌, ◌/◌, ◌≤◌, ◌<◌
 use mathlib.Core.Path.{◌≡◌, refl, sym}
 use mathlib.Core.Bool.{Bool, true, false}
 use native.Mathlib.Omega.{arith}
-use native.Mathlib.Nat.{le-div_iff_mul-le, div-lt_iff_lt-mul, mul-le-mul_right}
+use native.Mathlib.Nat.{le-div_iff_mul-le, div-lt_iff_lt-mul, mul-le-mul_left, mul-le-mul_right}
 use borrow.Author.Tests.{le-leb, lt-leb, leb-true, leb-false}
 use lib.Dec.{leb}
 use Rattle.num.specs.Choice.{each}
@@ -67,6 +67,9 @@ module _ (w size first step pairs room : ℕ) (fits : pairs_fit w size first ste
       let test : ℕ → Bool = λ j. inside w size (place_of first step j) in
       leb-true _ _ (each-at test pairs j (both-left (each test pairs) (leb (2 * pairs) room) fits) l)
 
+  pub pair-below : 0 < w → (j : ℕ) → j < pairs → place_of first step j < size
+  pair-below pos j l = omega (arith, mul-le-mul_left {m = 1} {n = 2 * w} (place_of first step j + 1) (omega arith), pair-inside j l)
+
   pub pairs-room : 2 * pairs ≤ room
   pairs-room = leb-true _ _ (both-right (each (λ j. inside w size (place_of first step j)) pairs) (leb (2 * pairs) room) fits)
 
@@ -77,11 +80,8 @@ run-inside w size first pairs room l fits =
     rw e at (pair-inside w size first 1 pairs room fits (pairs - 1) (omega arith))
 
 -- when numbers fit
-pub reals-outside : (w size count room : ℕ) → size < count * w → reals_fit w size count room ≡ false
-reals-outside w size count room h = rw (lt-leb (count * w) size h)
+pub reals-outside : (w size count room : ℕ) → 0 < w → size / w < count → reals_fit w size count room ≡ false
+reals-outside w size count room pos h = rw (lt-leb (count * w) size ((div-lt_iff_lt-mul pos).0 h))
 
 pub reals-no-room : (w size count room : ℕ) → room < count → reals_fit w size count room ≡ false
 reals-no-room w size count room h = rw (lt-leb count room h) (both-false (leb (count * w) size))
-
-pub reals-fit : (w size count room : ℕ) → count * w ≤ size → count ≤ room → reals_fit w size count room ≡ true
-reals-fit w size count room h g = rw (le-leb (count * w) size h, le-leb count room g)

@@ -7,6 +7,8 @@ use native.Mathlib.Omega.{arith}
 use lib.Arith.{digits_div, digits_mod}
 use lib.ListN.{length, take, drop, length-drop, length-reverse}
 use lib.Seq.{drop-drop, take-add, length-take-le}
+use lib.Bits.{or_shifted}
+use Rattle.std.specs.Int.{rotate_left, w32}
 use Rattle.num.specs.Number.{number, unsigned, bytes_of}
 use Rattle.num.specs.declared.Order.TheVariants.{Big, Little}
 use Rattle.num.proofs.Laws.{Bytes, cons-bytes, elems, part-elems, least-bytes, written-read}
@@ -90,3 +92,10 @@ module _ (w : ℕ) (src : List ℕ) (place : ℕ) (h : (place + 1) * (2 * w) ≤
       let b = bytes_at w src (2 * place + 1) in
       let n : length (reverse b) ≡ w = length-reverse b ∙ bytes-long w src (2 * place + 1) within-second in
       rw (whole, reverse-append a b) (parts w (reverse b) (reverse a) n (least-bytes Big b (bytes-small w src (2 * place + 1) within-second small)))
+
+-- ---- a word turned by half has its halves the other way round
+
+pub halves-turned : (x : ℕ) → x < 4294967296 → (rotate_left w32 x 16 % 65536 ≡ x / 65536) × (rotate_left w32 x 16 / 65536 ≡ x % 65536)
+halves-turned x h =
+    let e : x * 65536 % 4294967296 ≡ x % 65536 * 65536 = omega arith in
+    rw (e, or_shifted (x % 65536) 16 (x / 65536) (omega arith)) (omega arith, omega arith)

@@ -10,7 +10,6 @@ use borrow.Author.Tests.{eqb-true, eqb-false}
 use lib.Dec.{eqb}
 use lib.ListN.{length, get_or, take, drop, set, length-append, length-drop}
 use lib.Seq.{drop-cons, drop-drop, set_at, append_snoc, take_at, drop_at, get_or-set_same, get_or-set_other}
-use Rattle.num.specs.Choice.{pick}
 use Rattle.copy.specs.Samples.{place_of, i_of, q_of, pairs_of, reals_of, front_filled}
 
 module _ {A : Type 0} where
@@ -117,13 +116,5 @@ module _ {A : Type 0} (value : ℕ → A) where
   reals-same f e zero = refl
   reals-same f e (suc n) = rw (reals-same f e n, e n)
 
-  pub reals-first : (n : ℕ) → reals_of (λ k. value (0 + k)) n ≡ reals_of value n
-  reals-first n = reals-same (λ k. 0 + k) (λ k. omega arith) n
-
   pub pairs-first : (n : ℕ) → pairs_of value true 0 1 n ≡ reals_of value (2 * n)
   pairs-first n = pairs-reals 0 n ∙ reals-same (λ k. 2 * 0 + k) (λ k. omega arith) (2 * n)
-
--- one of two values is the value of one of two places
-pub pick-value : {A : Type 0} (value : ℕ → A) (left : Bool) (a b : ℕ) → pick left (value a) (value b) ≡ value (pick left a b)
-pick-value value true a b = refl
-pick-value value false a b = refl

@@ -7,14 +7,15 @@ use mathlib.Core.List.{List}
 use mathlib.Core.Logic.{◌⊎◌, inl, inr, ⊎_elim}
 use native.Mathlib.Omega.{arith}
 use native.Mathlib.Nat.{div-add-mod', div-lt_iff_lt-mul, mod-lt, mul_comm, mul-lt-mul_of_pos_right, mul-suc, mul-le-mul_left, eq-zero-or-pos, zero-div, zero-mod}
-use borrow.Author.Tests.{ltb-true, leb-true, eqb-true, lt-ltb, le-leb, eq-eqb, ne_eqb, le-ltb}
+use borrow.Author.Tests.{ltb-true, leb-true, eqb-true, lt-ltb, le-leb, eq-eqb, ne_eqb}
 use lib.Arith.{digits_lt, digits_div, digits_mod}
 use lib.Dec.{eqb, ltb, leb}
-use lib.ListN.{get_or}
+use lib.ListN.{length, take, get_or}
+use Rattle.std.proofs.lemmas.List.{length-take-le, get_or-take}
 use Rattle.num.specs.Choice.{pick, both, each}
-use Rattle.num.proofs.Tests.{both-left, both-right, both-hold, both-false, each-all, each-at}
+use Rattle.num.proofs.Tests.{both-left, both-right, both-hold, each-all, each-at}
 use Rattle.cover.specs.Cover.{bit, total, stands_at, hits, inside, once, covers, packs, group_covers}
-use Rattle.cover.proofs.Counts.{agrees, bit-true, bit-zero, bit-not, either, zero-at, zero-of, one-at, one-of, is-one}
+use Rattle.cover.proofs.Counts.{agrees, bit-true, bit-zero, bit-not, either, zero-at, zero-of, one-at, one-of, is-one, each-same, total-same}
 
 -- Sample j of channel c stands at f c + j * inc, for n channels of m samples each: every place is below P, every pair
 -- below P is that of some sample, and of only one.
@@ -207,6 +208,24 @@ covered-covers n inc P f z s =
     both-hold (eqb (P % n) 0) (both (inside n inc m f P) (once n inc m f P)) (eq-eqb (P % n) 0 z)
     (both-hold (inside n inc m f P) (once n inc m f P) (covered-inside n inc m P f s) (covered-once n inc m P f s))
 
+-- the rule looks at the first n offsets alone
+module _ (n inc m P : ℕ) (f g : ℕ → ℕ) (e : (c : ℕ) → c < n → f c ≡ g c) where
+  inside-same : inside n inc m f P ≡ inside n inc m g P
+  inside-same = each-same _ _ n (λ c h. ap (λ (x : ℕ). each (λ j. ltb (stands_at x inc j) P) m) (e c h))
+
+  hits-same : (p : ℕ) → hits n inc m f p ≡ hits n inc m g p
+  hits-same p = total-same _ _ n (λ c h. ap (λ (x : ℕ). total (λ j. bit (eqb (stands_at x inc j) p)) m) (e c h))
+
+  once-same : once n inc m f P ≡ once n inc m g P
+  once-same = each-same _ _ P (λ p h. ap (λ (x : ℕ). eqb x 1) (hits-same p))
+
+covers-same : (n inc P : ℕ) (f g : ℕ → ℕ) → ((c : ℕ) → c < n → f c ≡ g c) → covers n inc f P ≡ covers n inc g P
+unfolding covers
+covers-same n inc P f g e = rw (inside-same n inc (P / n) P f g e, once-same n inc (P / n) P f g e)
+
+pub front : (n inc P : ℕ) (l : List ℕ) → n ≤ length l → covers (length (take n l)) inc (λ c. get_or (take n l) c 0) P ≡ covers n inc (λ c. get_or l c 0) P
+front n inc P l h = rw (length-take-le n l h) (covers-same n inc P (λ c. get_or (take n l) c 0) (λ c. get_or l c 0) (λ c q. get_or-take n l c 0 q))
+
 -- ---- what the code tests, one turn for each channel
 
 -- offset k is a multiple of u and below n of them, and k times u is one offset
@@ -214,17 +233,7 @@ abbrev pub unit_at : ℕ → ℕ → (ℕ → ℕ) → ℕ → Bool
 unit_at n u f k = both (eqb (f k % u) 0) (both (ltb (f k / u) n) (eqb (total (λ c. bit (eqb (f c) (k * u))) n) 1))
 
 module _ (n u : ℕ) (f : ℕ → ℕ) (k : ℕ) where
-  pub no-multiple : (f k % u ≡ 0 → ⊥) → unit_at n u f k ≡ false
-  no-multiple h = rw (ne_eqb (f k % u) 0 h)
-
-  pub too-high : n ≤ f k / u → unit_at n u f k ≡ false
-  too-high h = rw (le-ltb (f k / u) n h) (both-false (eqb (f k % u) 0))
-
-  pub not-once : (total (λ c. bit (eqb (f c) (k * u))) n ≡ 1 → ⊥) → unit_at n u f k ≡ false
-  not-once h =
-      rw (ne_eqb (total (λ c. bit (eqb (f c) (k * u))) n) 1 h, both-false (ltb (f k / u) n)) (both-false (eqb (f k % u) 0))
-
-  pub good : f k % u ≡ 0 → f k / u < n → total (λ c. bit (eqb (f c) (k * u))) n ≡ 1 → unit_at n u f k ≡ true
+  good : f k % u ≡ 0 → f k / u < n → total (λ c. bit (eqb (f c) (k * u))) n ≡ 1 → unit_at n u f k ≡ true
   good a b c = rw (eq-eqb (f k % u) 0 a, lt-ltb (f k / u) n b, eq-eqb (total (λ c. bit (eqb (f c) (k * u))) n) 1 c)
 
 module _ (n u : ℕ) (f : ℕ → ℕ) (hu : 0 < u) where

@@ -21,6 +21,7 @@ use Rattle.state.specs.declared.Values.{Values}
 use Rattle.state.proofs.Slots.{in-built, set-other, in-set, sums-other, set-none}
 use Rattle.effect.specs.Ready.{hertz_of, gains_of, in_group}
 use Rattle.effect.proofs.Summed.{group-summed}
+use Rattle.samples.proofs.There.{pick-same}
 use Rattle.decides.specs.Last.{is_skipped, Last, nothing, set, last_after, last_of, Leaves, AllLeave, LastIs, NoneSince, value_by, value_of, last_value, last_values, group_shaped, shown_by, is_counted}
 
 -- ---- which chunk it is
@@ -80,10 +81,6 @@ module _ (o : Order) (x : Slot) (b : List ℕ) where
   value-well hold read code a h e = rw (h, e) (in-set x (hold a) (built none))
 
 -- ---- what is shown of it
-
-pick-same : {A : Type 0} (b : Bool) (a : A) → pick b a a ≡ a
-pick-same true a = refl
-pick-same false a = refl
 
 group-none : (x : Slot) (v : Values) → value_in x v ≡ none x → value_in x (in_group v) ≡ none x
 group-none packing v e = e

@@ -1,5 +1,5 @@
 -- The last chunk that sets a value since the step was regained, and the value that it leaves.
-use Rattle.std.specs.Prelude.{ℕ, ◌≡◌, Bool, true, false}
+use Rattle.std.specs.Prelude.{ℕ, ◌≡◌, Bool, true, false, Option, Some, None}
 use mathlib.Core.List.{List, [], ◌∷◌, ◌++◌, foldl}
 use Rattle.num.specs.Choice.{pick, either}
 use Rattle.num.specs.declared.Order.{Order}
@@ -7,8 +7,7 @@ use Rattle.frame.specs.Frames.{Frame, chunk, skipped, unfinished, of_chunk}
 use Rattle.body.specs.Check.{or_else}
 use Rattle.body.specs.Kind.{kind_of}
 use Rattle.body.specs.Table.{Slot, frequencies, gains, Value, none, is_slot, Row, sets, marks, leaves, samples, unknown, row, set_by, shaped}
-use Rattle.body.specs.declared.sampled.Shaped.{Shaped}
-use Rattle.body.specs.declared.sampled.Shaped.TheVariants.{Samples, NoSamples}
+use Rattle.body.specs.declared.sampled.Shape.{Shape}
 use Rattle.body.specs.declared.kinds.Kind.{Kind}
 use Rattle.state.specs.State.{value_in, set_in, built}
 use Rattle.state.specs.declared.Values.{Values}
@@ -88,9 +87,9 @@ last_values o fs = built (last_value o fs)
 
 -- ---- what is shown of the values
 
-abbrev pub group_shaped : Shaped → Bool
-group_shaped (Samples shape) = of_group shape
-group_shaped NoSamples = false
+abbrev pub group_shaped : Option Shape → Bool
+group_shaped (Some shape) = of_group shape
+group_shaped None = false
 
 -- a group chunk shows frequencies and gains of another count than the packing's as absent; any other shows all values
 abbrev pub shown_by : Kind → Values → Values

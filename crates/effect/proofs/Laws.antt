@@ -8,13 +8,12 @@ use lib.IntN.{ℤ, pos}
 use Rattle.num.specs.Choice.{pick}
 use Rattle.num.specs.Answer.{Answer, gives, refuses}
 use Rattle.num.specs.declared.Order.{Order}
-use Rattle.body.specs.Fault.{checked_said}
-use Rattle.body.specs.Groups.{Read}
-use Rattle.body.specs.declared.faults.Checked.{Checked}
-use Rattle.body.specs.declared.faults.Checked.TheVariants.{Good, Malformed}
 use Rattle.body.specs.Check.{or_else}
 use Rattle.body.specs.Table.{Slot, Value, none, Row, sets, marks, leaves, samples, unknown, row, shaped_by, shaped}
-use Rattle.body.specs.declared.sampled.Shaped.TheVariants.{NoSamples}
+use Rattle.std.specs.Prelude.{None, Result, Ok, Err, is_ok, ◌||◌}
+use Rattle.std.specs.Result.{result_unwrap_or}
+use Rattle.body.specs.Fault.{read_said}
+use Rattle.body.specs.declared.faults.Fault.{Fault}
 use Rattle.body.specs.Values.{no_number, no_band, number, centred}
 use Rattle.body.specs.declared.kinds.Kind.{Kind}
 use Rattle.body.specs.declared.kinds.Kind.TheVariants.{SSNC, SSNR, SFNC, SFNR, GSNC, GFNC, SIQP, SR, BW, GCBW, BWOF, CF, DBFS, DBTG, FFS, GIQP, GCF, GRG, SOFH, EOFH, IQDC, TEXT, Unknown}
@@ -23,7 +22,7 @@ use Rattle.state.specs.State.{set_in, with_values}
 use Rattle.state.specs.declared.State.{State}
 use Rattle.effect.specs.Says.{Says, verdict_said, judged}
 use Rattle.effect.specs.Ready.{no_state, in_group, ready_data}
-use Rattle.effect.specs.Effect.{met, data_effect, effect_by, effect}
+use Rattle.effect.specs.Effect.{met, marked, data_effect, effect_by, effect}
 use Rattle.effect.specs.IsEffect.{IsEffect}
 use Rattle.effect.specs.declared.Taken.{Taken}
 use Rattle.effect.specs.declared.ready.Judged.{Judged}
@@ -59,33 +58,39 @@ pub data-is-effect : {r : Taken} {says : Says} {j k : Judged} (s : State) (g : B
     (verdict_said k.verdict ≡ says) × (k.group ≡ g) → IsEffect r (data_effect (verdict_said j.verdict) (pick j.group (in_group s.values) s.values) s) → IsEffect r (data_effect says (pick g (in_group s.values) s.values) s)
 data-is-effect s g e p h = rw (← p.0, ← p.1, ← e) h
 
-judged-checked : {A : Type 0} (k : Checked) (v : A) → judged (checked_said k (tt {0})) ≡ judged (checked_said k v)
-judged-checked Good v = refl
-judged-checked (Malformed f) v = refl
+-- the value that was read, or what stands for its absence in its place
+pub read-or : {A : Type 0} (r : Result A Fault) (absent : A) → result_unwrap_or r absent ≡ or_else absent (λ x. x) (read_said r)
+read-or (Ok a) absent = refl
+read-or (Err f) absent = refl
 
--- a verdict that stands beside its value is what the rule says
-pub read-judged : {A : Type 0} {k : Checked} {v none : A} {rule : Answer A} → Read k v none rule → judged (checked_said k (tt {0})) ≡ judged rule
-read-judged {k = k} {v = v} h = judged-checked k v ∙ ap judged h.said
+pub read-held : {A : Type 0} (r : Result A Fault) {rule : Answer A} {d absent v : A} → read_said r ≡ rule → d ≡ absent → v ≡ result_unwrap_or r d →
+    v ≡ or_else absent (λ x. x) rule
+read-held r {absent = absent} e q h = rw (← e, ← read-or r absent, ← q) h
+
+-- the mark is set by what is well-formed, or was set before
+pub marks-or : {A : Type 0} (r : Result A Fault) (mark : Bool) → (is_ok r || mark) ≡ marked (read_said r) mark
+marks-or (Ok a) mark = refl
+marks-or (Err f) mark = refl
 
 pub not-data : {A : Type 0} (a : Answer A) → refuses 35 ≡ ready_data (judged a)
 not-data (gives x) = refl
 not-data (refuses n) = refl
 
 -- a chunk that is no data is not ready
-no-samples : (r : Row) (o : Order) (b : List ℕ) (s : State) → shaped_by r ≡ NoSamples → refuses 35 ≡ ready_data (effect_by r o b s).says
+no-samples : (r : Row) (o : Order) (b : List ℕ) (s : State) → shaped_by r ≡ None → refuses 35 ≡ ready_data (effect_by r o b s).says
 no-samples (sets x hold read) o b s e = not-data (read o b)
 no-samples (marks read) o b s e = not-data (read o b)
 no-samples (leaves read) o b s e = not-data (read o b)
 no-samples (samples shape) o b s e = let z : ◌≡◌ {A = ℕ} 0 1 = cc in absurd (omega arith)
 no-samples unknown o b s e = refl
 
-pub no-data : (o : Order) (k : Kind) (b : List ℕ) (s : State) → shaped k ≡ NoSamples → refuses 35 ≡ ready_data (effect o k b s).says
+pub no-data : (o : Order) (k : Kind) (b : List ℕ) (s : State) → shaped k ≡ None → refuses 35 ≡ ready_data (effect o k b s).says
 unfolding effect shaped
 no-data o k b s e = no-samples (row k) o b s e
 
 -- a kind that is none of the six data kinds has no samples
 pub no-samples-of : (k : Kind) → (k ≡ SSNC → ⊥) → (k ≡ SSNR → ⊥) → (k ≡ SFNC → ⊥) → (k ≡ SFNR → ⊥) → (k ≡ GSNC → ⊥) → (k ≡ GFNC → ⊥) →
-    shaped k ≡ NoSamples
+    shaped k ≡ None
 unfolding shaped
 no-samples-of SSNC a b c d e f = absurd (a refl)
 no-samples-of SSNR a b c d e f = absurd (b refl)

@@ -1,5 +1,5 @@
 -- When a data chunk is ready, and what it shows.
-use Rattle.std.specs.Prelude.{ℕ, Bool, true, false, eqb, ltb}
+use Rattle.std.specs.Prelude.{ℕ, Bool, true, false, eqb, ltb, Option, Some, None}
 use Rattle.num.specs.Answer.{Answer, gives, refuses}
 use Rattle.num.specs.Choice.{pick}
 use Rattle.body.specs.Groups.{no_hertz, no_gains}
@@ -17,8 +17,6 @@ use Rattle.state.specs.declared.sums.GainSums.{GainSums}
 use Rattle.state.specs.declared.Values.{Values}
 use Rattle.state.specs.declared.State.{State}
 use Rattle.effect.specs.Says.{Says, ok, unknown, bad, waits, ready}
-use Rattle.effect.specs.declared.ask.Asked.{Asked}
-use Rattle.effect.specs.declared.ask.Asked.TheVariants.{Ready, NotReady}
 
 -- a malformed chunk has its number; a well-formed one waits for the first of packing, sample rate and float full scale
 -- that is lacking, and is ready where none is
@@ -91,6 +89,6 @@ ready_data (bad n) = refuses 35
 ready_data (waits n t) = refuses 35
 ready_data (ready d) = gives d
 
-abbrev pub asked_said : Asked → Answer Data
-asked_said (Ready d) = gives d
-asked_said NotReady = refuses 35
+abbrev pub asked_said : Option Data → Answer Data
+asked_said (Some d) = gives d
+asked_said None = refuses 35

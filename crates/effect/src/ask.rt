@@ -10,29 +10,20 @@ use body::{Data, Kind};
 use num::Order;
 use state::State;
 
-// The time and count of samples of a ready chunk, or that the chunk is not ready.
-#[derive(Clone, Copy)]
-pub enum Asked {
-    Ready(Data),
-    NotReady,
-}
-
-fn answer(judged: Judged) -> Asked
+// The data of a verdict that finds it ready.
+// A match and no `From`: a conversion would not say that all other verdicts are left out.
+fn answer(judged: Judged) -> Option<Data>
     ensures { asked_said result ≡ ready_data (verdict_said judged.verdict) }
 {
-    let verdict = judged.verdict;
-    match verdict {
-        Verdict::Ready(d) => Asked::Ready(d),
-        Verdict::Good => Asked::NotReady,
-        Verdict::Unknown => Asked::NotReady,
-        Verdict::Malformed(_) => Asked::NotReady,
-        Verdict::NotCovered => Asked::NotReady,
-        Verdict::Waits(_, _) => Asked::NotReady,
+    match judged.verdict {
+        Verdict::Ready(d) => Some(d),
+        _ => None,
     }
 }
 
+// The six arms stand in `take` as well: one function for them would test for data twice in a step.
 // Whether a chunk is ready data in a state: its time and count of samples where it is. Nothing takes effect.
-pub fn ready_data(order: Order, kind: Kind, body: &[u8], was: State) -> Asked
+pub fn ready_data(order: Order, kind: Kind, body: &[u8], was: State) -> Option<Data>
     ensures { asked_said result ≡ ready_data (effect order kind body.now was).says }
 {
     let packed = was.values.packing.present;
@@ -46,6 +37,6 @@ pub fn ready_data(order: Order, kind: Kind, body: &[u8], was: State) -> Asked
         Kind::SFNR => answer(single(body::sfnr(order, body), true, rated, scaled)),
         Kind::GSNC => answer(grouped(body::gsnc(order, body), group, rated, true)),
         Kind::GFNC => answer(grouped(body::gfnc(order, body), group, rated, scaled)),
-        _ => Asked::NotReady,
+        _ => None,
     }
 }

@@ -1,4 +1,5 @@
 // The effect of a chunk, by its kind.
+// Order, body and state go on as `take` is given them: a struct of them would be made once and taken apart in each.
 ghost use Rattle.std.specs.Prelude.{◌≡◌};
 ghost use Rattle.state.specs.State.{with_values};
 ghost use Rattle.effect.specs.Effect.{effect};
@@ -29,41 +30,42 @@ fn set(verdict: Verdict, was: State, values: Values) -> Taken
     met(verdict, was.with_values(values))
 }
 
+// A function for each kind that sets a value: they differ in the reading and in the field, which a closure for each would
+// have to name as well.
 fn siqp(order: Order, body: &[u8], was: State) -> Taken
     ensures { IsEffect result (effect order Kind.SIQP body.now was) }
 {
     let read = body::siqp(order, body);
-    let value = value::held(read, value::NONE);
+    let value = value::held(read);
     let mut values = was.values;
     values.packing = value;
-    set(value::of_number(read), was, values)
+    set(value::judged(read), was, values)
 }
 
 fn sr(order: Order, body: &[u8], was: State) -> Taken
     ensures { IsEffect result (effect order Kind.SR body.now was) }
 {
     let read = body::sr(order, body);
-    let value = value::held(read, value::NONE);
+    let value = value::held(read);
     let mut values = was.values;
     values.rate = value;
-    set(value::of_number(read), was, values)
+    set(value::judged(read), was, values)
 }
 
 // BW__ sets the offset to 0.
 fn bw(order: Order, body: &[u8], was: State) -> Taken
     ensures { IsEffect result (effect order Kind.BW body.now was) }
 {
-    let offset = 0;
     let read = body::bw(order, body);
-    let bandwidth = value::held(read, value::NONE);
+    let bandwidth = value::held(read);
     let band = BandHeld {
         present: bandwidth.present,
         width: bandwidth.value,
-        offset,
+        offset: 0,
     };
     let mut values = was.values;
     values.band = band;
-    set(value::of_number(read), was, values)
+    set(value::judged(read), was, values)
 }
 
 fn bwof(order: Order, body: &[u8], was: State) -> Taken
@@ -73,28 +75,27 @@ fn bwof(order: Order, body: &[u8], was: State) -> Taken
     let value = value::banded(read);
     let mut values = was.values;
     values.band = value;
-    set(value::of_band(read), was, values)
+    set(value::judged(read), was, values)
 }
 
 fn gcbw(order: Order, body: &[u8], was: State) -> Taken
     ensures { IsEffect result (effect order Kind.GCBW body.now was) }
 {
     let read = body::bw(order, body);
-    let value = value::held(read, value::NONE);
+    let value = value::held(read);
     let mut values = was.values;
     values.group_band = value;
-    set(value::of_number(read), was, values)
+    set(value::judged(read), was, values)
 }
 
 fn cf(order: Order, body: &[u8], was: State) -> Taken
     ensures { IsEffect result (effect order Kind.CF body.now was) }
 {
-    let absent = value::NONE;
     let read = body::cf(order, body);
-    let frequency = value::held(read, absent);
+    let frequency = value::held(read);
     let mut values = was.values;
     values.centre = frequency;
-    set(value::of_number(read), was, values)
+    set(value::judged(read), was, values)
 }
 
 fn dbfs(order: Order, body: &[u8], was: State) -> Taken
@@ -104,7 +105,7 @@ fn dbfs(order: Order, body: &[u8], was: State) -> Taken
     let value = value::levelled(read);
     let mut values = was.values;
     values.full_scale = value;
-    set(value::of_level(read), was, values)
+    set(value::judged(read), was, values)
 }
 
 fn dbtg(order: Order, body: &[u8], was: State) -> Taken
@@ -113,7 +114,7 @@ fn dbtg(order: Order, body: &[u8], was: State) -> Taken
     let read = body::dbtg(order, body);
     let value = value::levelled(read);
     let values = was.values;
-    set(value::of_level(read), was, values.with_total_gain(value))
+    set(value::judged(read), was, values.with_total_gain(value))
 }
 
 fn ffs(order: Order, body: &[u8], was: State) -> Taken
@@ -123,52 +124,47 @@ fn ffs(order: Order, body: &[u8], was: State) -> Taken
     let value = value::levelled(read);
     let mut values = was.values;
     values.float_scale = value;
-    set(value::of_level(read), was, values)
+    set(value::judged(read), was, values)
 }
 
 fn giqp(order: Order, body: &[u8], was: State) -> Taken
     ensures { IsEffect result (effect order Kind.GIQP body.now was) }
 {
     let read = body::giqp(order, body);
-    let value = read.packing;
-    let checked = read.checked;
     let mut values = was.values;
-    values.group = value;
-    set(value::of_checked(checked), was, values)
+    values.group = read.unwrap_or(body::no_packing());
+    set(value::judged(read), was, values)
 }
 
 fn gcf(order: Order, body: &[u8], was: State) -> Taken
     ensures { IsEffect result (effect order Kind.GCF body.now was) }
 {
     let read = body::gcf(order, body);
-    let value = read.hertz;
-    let checked = read.checked;
     let mut values = was.values;
-    values.frequencies = value;
-    set(value::of_checked(checked), was, values)
+    values.frequencies = read.unwrap_or(body::no_hertz());
+    set(value::judged(read), was, values)
 }
 
 fn grg(order: Order, body: &[u8], was: State) -> Taken
     ensures { IsEffect result (effect order Kind.GRG body.now was) }
 {
     let read = body::grg(order, body);
-    let value = read.gains;
-    let checked = read.checked;
+    let value = read.unwrap_or(body::no_gains());
     let values = was.values;
-    set(value::of_checked(checked), was, values.with_gains(value))
+    set(value::judged(read), was, values.with_gains(value))
 }
 
 // A well-formed IQDC sets the start mark.
 fn iqdc(order: Order, body: &[u8], was: State) -> Taken
     ensures { IsEffect result (effect order Kind.IQDC body.now was) }
 {
-    let checked = body::empty(body);
-    let mark = value::marked(checked, was.mark);
-    met(value::of_checked(checked), was.with_mark(mark))
+    let read = body::empty(body);
+    met(value::judged(read), was.with_mark(read.is_ok() | was.mark))
 }
 
 // What a chunk does in a state: it sets its value, or removes it where the chunk is malformed; sets the start mark; or
 // is data, which is ready or waits. A ready chunk shows the state, and clears the mark.
+// A match and no table of functions: data kinds get the values that they ask for, the others the whole state.
 pub fn take(order: Order, kind: Kind, body: &[u8], was: State) -> Taken
     ensures { IsEffect result (effect order kind body.now was) }
 {
@@ -195,10 +191,10 @@ pub fn take(order: Order, kind: Kind, body: &[u8], was: State) -> Taken
         Kind::GIQP => return giqp(order, body, was),
         Kind::GCF => return gcf(order, body, was),
         Kind::GRG => return grg(order, body, was),
-        Kind::SOFH => return met(value::of_number(body::sofh(order, body)), was),
-        Kind::EOFH => return met(value::of_checked(body::empty(body)), was),
+        Kind::SOFH => return met(value::judged(body::sofh(order, body)), was),
+        Kind::EOFH => return met(value::judged(body::empty(body)), was),
         Kind::IQDC => return iqdc(order, body, was),
-        Kind::TEXT => return met(value::of_text(body::text(order, body)), was),
+        Kind::TEXT => return met(value::judged(body::text(order, body)), was),
         Kind::Unknown => return met(Verdict::Unknown, was),
     };
     data_effect(judged, was)

@@ -6,39 +6,36 @@ pub mod effects;
 mod ready;
 mod value;
 
-ghost use Rattle.std.specs.Prelude.{◌≡◌};
 ghost use Rattle.effect.specs.Says.{lack_number, verdict_said, says_number};
 
-pub use ask::{Asked, ready_data};
+pub use ask::ready_data;
 use body::{Data, Fault};
 pub use effects::take;
+use num::Numbered;
 use state::State;
 
 // What a well-formed data chunk lacks.
-#[derive(Clone, Copy)]
+#[derive(Clone, Copy, PartialEq, Eq)]
 pub enum Lack {
-    // SIQP, or GIQP for a group: number 21.
-    Packing,
-    // SR__: number 22.
-    Rate,
-    // FFS_: number 23.
-    Scale,
+    // SIQP, or GIQP for a group.
+    Packing = 21,
+    // SR__.
+    Rate = 22,
+    // FFS_.
+    Scale = 23,
 }
 
-impl Lack {
+impl Numbered for Lack {
+    ghost number_of = { lack_number };
+
     // The number of the lack, 21 to 23.
-    pub fn number(self) -> u32
-        ensures { result ≡ lack_number self }
-    {
-        match self {
-            Lack::Packing => 21,
-            Lack::Rate => 22,
-            Lack::Scale => 23,
-        }
+    fn number(self) -> u32 {
+        self as u32
     }
 }
 
-// What the reader says of a chunk that it accepts.
+// What the reader says of a chunk that it accepts. No Result: Good and Unknown are no errors and have no data, and data
+// that waits has a time.
 #[derive(Clone, Copy)]
 pub enum Verdict {
     // Well-formed, and no data.
@@ -55,25 +52,24 @@ pub enum Verdict {
     Ready(Data),
 }
 
-impl Verdict {
+impl Numbered for Verdict {
+    ghost number_of = { λ v. says_number (verdict_said v) };
+
     // The number of what is wrong, 11 to 16, or of what is lacking, 21 to 23; 0 for a chunk that is well-formed,
-    // unknown or ready.
-    pub fn number(self) -> u32
-        ensures { result ≡ says_number (verdict_said self) }
-    {
+    // unknown or ready. A match, since two cases have the number of what they carry.
+    fn number(self) -> u32 {
         match self {
-            Verdict::Good => 0,
-            Verdict::Unknown => 0,
+            Verdict::Good | Verdict::Unknown | Verdict::Ready(_) => 0,
             Verdict::Malformed(fault) => fault.number(),
             Verdict::NotCovered => 16,
             Verdict::Waits(lack, _) => lack.number(),
-            Verdict::Ready(_) => 0,
         }
     }
 }
 
 // What a chunk does: the verdict on it; the state that it shows, which is empty unless it is ready data; and the state
 // after it.
+// `shown` is no Option: what shows nothing shows the empty state (`no_state`, specs/Ready.antt).
 #[derive(Clone, Copy)]
 pub struct Taken {
     pub verdict: Verdict,

@@ -1,7 +1,7 @@
 // Data chunks: whether they are ready, and what they show.
 ghost use Rattle.std.specs.Prelude.{◌≡◌, true, false, ltb};
 ghost use Rattle.num.specs.Choice.{pick};
-ghost use Rattle.body.specs.Samples.{data_said};
+ghost use Rattle.body.specs.Fault.{read_said};
 ghost use Rattle.state.specs.State.{with_values};
 ghost use Rattle.effect.specs.Says.{verdict_said};
 ghost use Rattle.effect.specs.Ready.{data_says, covering, is_ready, no_state, hertz_of, gains_of, beside_of, in_group};
@@ -9,27 +9,20 @@ ghost use Rattle.effect.specs.Effect.{data_effect};
 ghost use Rattle.effect.specs.IsEffect.{IsEffect};
 
 use crate::{Lack, Taken, Verdict};
-use body::{DataRead, GroupGains, GroupHertz, GroupPacking};
+use body::{Data, Fault, GroupGains, GroupHertz, GroupPacking};
 use state::{GainSums, State, Values};
 
 // The first lack decides.
-fn verdict_of(read: DataRead, packed: bool, rated: bool, scaled: bool) -> Verdict
-    ensures { verdict_said result ≡ data_says (data_said read) packed rated scaled }
+// The flags go one by one: each kind asks for others, so a struct of them would be made anew for each of the six kinds.
+fn verdict_of(read: Result<Data, Fault>, packed: bool, rated: bool, scaled: bool) -> Verdict
+    ensures { verdict_said result ≡ data_says (read_said read) packed rated scaled }
 {
     match read {
-        DataRead::Malformed(f) => Verdict::Malformed(f),
-        DataRead::Is(d) => {
-            if !packed {
-                return Verdict::Waits(Lack::Packing, d.time);
-            }
-            if !rated {
-                return Verdict::Waits(Lack::Rate, d.time);
-            }
-            if !scaled {
-                return Verdict::Waits(Lack::Scale, d.time);
-            }
-            Verdict::Ready(d)
-        }
+        Err(f) => Verdict::Malformed(f),
+        Ok(d) if !packed => Verdict::Waits(Lack::Packing, d.time),
+        Ok(d) if !rated => Verdict::Waits(Lack::Rate, d.time),
+        Ok(d) if !scaled => Verdict::Waits(Lack::Scale, d.time),
+        Ok(d) => Verdict::Ready(d),
     }
 }
 
@@ -38,35 +31,20 @@ fn covering(g: GroupPacking, verdict: Verdict) -> Verdict
     ensures { verdict_said result ≡ covering g (verdict_said verdict) }
 {
     match verdict {
-        Verdict::Ready(d) => {
-            let offsets = g.offsets;
-            if cover::covers(d.samples, g.n, g.increment as usize, offsets) {
-                Verdict::Ready(d)
-            } else {
-                Verdict::NotCovered
-            }
+        Verdict::Ready(d) if !cover::covers(d.samples, g.n, g.increment as usize, g.offsets) => {
+            Verdict::NotCovered
         }
-        Verdict::Good => Verdict::Good,
-        Verdict::Unknown => Verdict::Unknown,
-        Verdict::Malformed(f) => Verdict::Malformed(f),
-        Verdict::NotCovered => Verdict::NotCovered,
-        Verdict::Waits(l, t) => Verdict::Waits(l, t),
+        _ => verdict,
     }
 }
 
 fn is_ready(verdict: Verdict) -> bool
     ensures { result ≡ is_ready (verdict_said verdict) }
 {
-    match verdict {
-        Verdict::Ready(_) => true,
-        Verdict::Good => false,
-        Verdict::Unknown => false,
-        Verdict::Malformed(_) => false,
-        Verdict::NotCovered => false,
-        Verdict::Waits(_, _) => false,
-    }
+    matches!(verdict, Verdict::Ready(_))
 }
 
+// The next three have one form. They stay three, since specs/Ready.antt has a definition of each.
 fn hertz_of(n: usize, h: GroupHertz) -> GroupHertz
     ensures { result ≡ hertz_of n h }
 {
@@ -115,14 +93,12 @@ pub struct Judged {
 fn shows(ready: bool, group: bool, was: State) -> State
     ensures { result ≡ pick ready (with_values was (pick group (in_group was.values) was.values)) no_state }
 {
-    if ready {
-        if group {
-            was.with_values(in_group(was.values))
-        } else {
-            was
-        }
-    } else {
+    if !ready {
         State::empty(false)
+    } else if group {
+        was.with_values(in_group(was.values))
+    } else {
+        was
     }
 }
 
@@ -143,8 +119,8 @@ pub(crate) fn data_effect(judged: Judged, was: State) -> Taken
 
 // A data chunk of one channel: whether it has the packing, the sample rate and the float full scale, where it needs
 // them.
-pub(crate) fn single(read: DataRead, packed: bool, rated: bool, scaled: bool) -> Judged
-    ensures { (verdict_said result.verdict ≡ data_says (data_said read) packed rated scaled) × (result.group ≡ false) }
+pub(crate) fn single(read: Result<Data, Fault>, packed: bool, rated: bool, scaled: bool) -> Judged
+    ensures { (verdict_said result.verdict ≡ data_says (read_said read) packed rated scaled) × (result.group ≡ false) }
 {
     Judged {
         verdict: verdict_of(read, packed, rated, scaled),
@@ -153,9 +129,14 @@ pub(crate) fn single(read: DataRead, packed: bool, rated: bool, scaled: bool) ->
 }
 
 // A data chunk of a group: whether it has the sample rate, and the float full scale where it needs it.
-pub(crate) fn grouped(read: DataRead, group: GroupPacking, rated: bool, scaled: bool) -> Judged
+pub(crate) fn grouped(
+    read: Result<Data, Fault>,
+    group: GroupPacking,
+    rated: bool,
+    scaled: bool,
+) -> Judged
     ensures { (verdict_said result.verdict ≡ covering group
-        (data_says (data_said read) (ltb 0 group.n) rated scaled))
+        (data_says (read_said read) (ltb 0 group.n) rated scaled))
         × (result.group ≡ true) }
 {
     let verdict = verdict_of(read, 0 < group.n, rated, scaled);

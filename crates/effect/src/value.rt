@@ -1,122 +1,67 @@
 // The values that chunks set, and the verdicts on chunks that are no data.
 ghost use Rattle.std.specs.Prelude.{◌≡◌};
-ghost use Rattle.body.specs.Fault.{checked_said};
-ghost use Rattle.body.specs.Levels.{level_said};
-ghost use Rattle.body.specs.Numbers.{number_said, band_said};
-ghost use Rattle.body.specs.Plain.{text_said};
+ghost use Rattle.body.specs.Fault.{read_said};
 ghost use Rattle.body.specs.Check.{or_else};
-ghost use Rattle.body.specs.Values.{no_band, no_level, number, banded, amount, levelled};
+ghost use Rattle.body.specs.Values.{no_number, no_band, no_level, number, banded, amount, levelled};
 ghost use Rattle.effect.specs.Says.{verdict_said, judged};
-ghost use Rattle.effect.specs.Effect.{marked};
 
 use crate::Verdict;
-use body::{BandHeld, BandRead, Checked, Held, Level, LevelHeld, LevelRead, NumberRead, TextRead};
+use body::{Band, BandHeld, Fault, Held, Level, LevelHeld};
 
-// A number that is absent.
-pub(crate) const NONE: Held = Held {
-    present: false,
-    value: 0,
-};
-
-// The number that was read, or `absent` where the body is malformed.
-pub(crate) fn held(read: NumberRead, absent: Held) -> Held
-    ensures { result ≡ or_else absent number (number_said read) }
+// What was read as the state holds it, or its absence where the body is malformed. Each of the three holds another type
+// by other fields, so that one function for them would be handed all that they say.
+pub(crate) fn held(read: Result<i64, Fault>) -> Held
+    ensures { result ≡ or_else no_number number (read_said read) }
 {
     match read {
-        NumberRead::Is(v) => Held {
+        Ok(value) => Held {
             present: true,
-            value: v,
+            value,
         },
-        NumberRead::Malformed(_) => absent,
+        Err(_) => body::no_number(),
     }
 }
 
-pub(crate) fn banded(read: BandRead) -> BandHeld
-    ensures { result ≡ or_else no_band banded (band_said read) }
+pub(crate) fn banded(read: Result<Band, Fault>) -> BandHeld
+    ensures { result ≡ or_else no_band banded (read_said read) }
 {
     match read {
-        BandRead::Is(b) => BandHeld {
+        Ok(b) => BandHeld {
             present: true,
             width: b.width,
             offset: b.offset,
         },
-        BandRead::Malformed(_) => body::no_band(),
+        Err(_) => body::no_band(),
     }
 }
 
+// The number of a level. Its cases differ in what the number means, so no field is common to them.
 fn amount(level: Level) -> f32
     ensures { result ≡ amount level }
 {
     match level {
-        Level::FullScale(x) => x,
-        Level::TotalGain(x) => x,
-        Level::FloatFullScale(x) => x,
+        Level::FullScale(x) | Level::TotalGain(x) | Level::FloatFullScale(x) => x,
     }
 }
 
-pub(crate) fn levelled(read: LevelRead) -> LevelHeld
-    ensures { result ≡ or_else no_level levelled (level_said read) }
+pub(crate) fn levelled(read: Result<Level, Fault>) -> LevelHeld
+    ensures { result ≡ or_else no_level levelled (read_said read) }
 {
     match read {
-        LevelRead::Is(level) => LevelHeld {
+        Ok(level) => LevelHeld {
             present: true,
             value: amount(level),
         },
-        LevelRead::Malformed(_) => body::no_level(),
+        Err(_) => body::no_level(),
     }
 }
 
-// A well-formed IQDC sets the start mark.
-pub(crate) fn marked(checked: Checked, mark: bool) -> bool
-    ensures { result ≡ marked (checked_said checked (tt {0})) mark }
-{
-    match checked {
-        Checked::Good => true,
-        Checked::Malformed(_) => mark,
-    }
-}
-
-pub(crate) fn of_number(read: NumberRead) -> Verdict
-    ensures { verdict_said result ≡ judged (number_said read) }
+// What is said of a chunk that is no data. No `From`: a conversion would call data good that may have to wait.
+pub(crate) fn judged<T: Copy>(read: Result<T, Fault>) -> Verdict
+    ensures { verdict_said result ≡ judged (read_said read) }
 {
     match read {
-        NumberRead::Is(_) => Verdict::Good,
-        NumberRead::Malformed(f) => Verdict::Malformed(f),
-    }
-}
-
-pub(crate) fn of_band(read: BandRead) -> Verdict
-    ensures { verdict_said result ≡ judged (band_said read) }
-{
-    match read {
-        BandRead::Is(_) => Verdict::Good,
-        BandRead::Malformed(f) => Verdict::Malformed(f),
-    }
-}
-
-pub(crate) fn of_level(read: LevelRead) -> Verdict
-    ensures { verdict_said result ≡ judged (level_said read) }
-{
-    match read {
-        LevelRead::Is(_) => Verdict::Good,
-        LevelRead::Malformed(f) => Verdict::Malformed(f),
-    }
-}
-
-pub(crate) fn of_text(read: TextRead) -> Verdict
-    ensures { verdict_said result ≡ judged (text_said read) }
-{
-    match read {
-        TextRead::Is(_) => Verdict::Good,
-        TextRead::Malformed(f) => Verdict::Malformed(f),
-    }
-}
-
-pub(crate) fn of_checked(read: Checked) -> Verdict
-    ensures { verdict_said result ≡ judged (checked_said read (tt {0})) }
-{
-    match read {
-        Checked::Good => Verdict::Good,
-        Checked::Malformed(f) => Verdict::Malformed(f),
+        Ok(_) => Verdict::Good,
+        Err(fault) => Verdict::Malformed(fault),
     }
 }

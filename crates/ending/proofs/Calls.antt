@@ -24,7 +24,8 @@ use Rattle.reader.proofs.Cursor.new.Reads as newReads
 use Rattle.reader.proofs.Cursor.step.Kinds as step
 use Rattle.reader.proofs.Cursor.step.Reads as stepReads
 use Rattle.samples.specs.Copy.{copied_said, layout_at, count_of, samples_at, filled}
-use Rattle.samples.specs.declared.Copied.{Copied}
+use Rattle.samples.specs.declared.Uncopied.{Uncopied}
+use Rattle.std.specs.Prelude.{Result}
 use Rattle.samples.proofs.shorts.shorts_at.Kinds as shorts
 use Rattle.samples.proofs.shorts.shorts_at.Reads as shortsReads
 use Rattle.samples.proofs.patterns.patterns_at.Kinds as patterns
@@ -73,7 +74,7 @@ pub record Copying (A : Type 0) : Type 0 where
   pub cursor : Cursor
   pub channel : ℕ
   pub out : List A
-  pub result : Copied
+  pub result : Result ℕ Uncopied
   pub left : List A
 
 abbrev pub named : (E : RattleType) (promise : Out 2 (copy_kinds E) shorts.r) → Call 2 (copy_kinds E) shorts.r promise → Copying E.Denot

@@ -14,7 +14,7 @@ use Rattle.frame.specs.declared.Ahead.{Ahead}
 use Rattle.frame.specs.declared.Ahead.TheVariants.{End, Stretch, Cut, Chunk}
 use Rattle.frame.specs.declared.At.TheVariants.{Complete}
 use Rattle.frame.proofs.Looks.{is-chunk, is-stretch, is-end}
-use Rattle.frame.specs.declared.Found.TheVariants.{Place}
+use Rattle.std.specs.Prelude.{Some}
 use Rattle.frame.proofs.Laws.{gap-stop, search-here, search-at}
 use Rattle.frame.proofs.Frames.{gap-le}
 use Rattle.frame.proofs.Theorems.{search-stopped}
@@ -62,13 +62,13 @@ module _ (o : Order) (s : List ℕ) (p : ℕ) where
   here (suc f) d t k h b = here-by f d (ahead_of o (drop d.place s)) refl t k h b
 
 module _ (o : Order) (s : List ℕ) (c : Cursor) (k : c.in_step ≡ false) where
-  found : (q : ℕ) → c.place + gap o (drop c.place s) ≡ q → q < length s → search_from o s c.place ≡ Place q
+  found : (q : ℕ) → c.place + gap o (drop c.place s) ≡ q → q < length s → search_from o s c.place ≡ Some q
   found q e h = rw (e, lt-ltb q (length s) h)
 
   accepts-at : (q p : ℕ) → c.place + gap o (drop c.place s) ≡ q → q < length s → Here o s q p → AcceptsFirstAt o s c p
   accepts-at q p e h r =
       let i = r.same in
-      record { searching = k; stopped = found q e h ∙ ap Place i; code = r.code; size = r.size; complete = rw (← i) r.complete }
+      record { searching = k; stopped = found q e h ∙ ap Some i; code = r.code; size = r.size; complete = rw (← i) r.complete }
 
   -- after a skipped stretch
   skipped-by : (p : ℕ) (b : Bool) →
@@ -105,7 +105,7 @@ module _ (o : Order) (s : List ℕ) (c : Cursor) (k : c.in_step ≡ false) where
 
 -- A reader in step that comes to no sync or a bad header begins to search there, and accepts first what the search stops at.
 pub lost-first : (o : Order) (s : List ℕ) (c : Cursor) (p code size : ℕ) → unfit c ≡ false → c.place < length s → stops (shows o (drop c.place s)) ≡ false →
-    search_from o s c.place ≡ Place p → shows o (drop p s) ≡ Complete code size → AcceptsFirstAt o s (step_of o s c).cursor p
+    search_from o s c.place ≡ Some p → shows o (drop p s) ≡ Complete code size → AcceptsFirstAt o s (step_of o s c).cursor p
 lost-first o s c p code size u h n w e =
     let a = search-at o s c.place p w in
     let t : stops (shows o (drop p s)) ≡ true = rw e in

@@ -1,11 +1,10 @@
 -- Reading on from the first chunk that a searching reader accepts, with places counted from there.
-use Rattle.std.specs.Prelude.{ℕ, ◌+◌, ◌-◌, ◌≡◌, false, List, [], ◌∷◌, eqb, drop}
+use Rattle.std.specs.Prelude.{ℕ, ◌+◌, ◌-◌, ◌≡◌, false, List, [], ◌∷◌, eqb, drop, Some}
 use Rattle.num.specs.Answer.{Answer, gives, refuses}
 use Rattle.num.specs.Choice.{pick}
 use Rattle.num.specs.declared.Order.{Order}
 use Rattle.frame.specs.Place.{shows, search_from}
 use Rattle.frame.specs.declared.At.TheVariants.{Complete}
-use Rattle.frame.specs.declared.Found.TheVariants.{Place}
 use Rattle.reader.specs.Item.{Item, of_chunk, is_chunk, placed_by}
 use Rattle.reader.specs.Items.{Given}
 use Rattle.reader.specs.Step.{Step, cursor_at}
@@ -35,7 +34,7 @@ step_counted f t = record { item = answer_by f t.item; shown = t.shown; cursor =
 -- the reader is searching, and the first chunk that it accepts stands at p: the search stops there, at a complete chunk
 pub record AcceptsFirstAt (o : Order) (s : List ℕ) (c : Cursor) (p : ℕ) : Type 0 where
   pub searching : c.in_step ≡ false
-  pub stopped : search_from o s c.place ≡ Place p
+  pub stopped : search_from o s c.place ≡ Some p
   pub code : ℕ
   pub size : ℕ
   pub complete : shows o (drop p s) ≡ Complete code size

@@ -1,11 +1,10 @@
 -- Laws of the check, one item at a time, and of the arms of every other case.
 use Prim.Native.Nat.{ℕ, ◌+◌, ◌≤◌, ◌<◌}
 use mathlib.Core.Path.{◌≡◌, refl, ap, ◌∙◌}
-use mathlib.Core.Bool.{Bool, true, false}
+use mathlib.Core.Bool.{Bool, false}
 use mathlib.Core.List.{List, [], ◌∷◌}
 use native.Mathlib.Omega.{arith}
 use lib.ListN.{length, take, drop, drop_of_length-le}
-use Rattle.num.specs.Answer.{gives, refuses}
 use Rattle.num.specs.Choice.{pick}
 use Rattle.num.specs.declared.Order.{Order}
 use Rattle.frame.specs.Place.{shows}
@@ -18,7 +17,7 @@ use Rattle.frame.proofs.Looks.{other-made}
 use Rattle.frame.proofs.Frames.{frames-nil, frames-chunk, no-chunk}
 use Rattle.body.specs.Kind.{kind_of}
 use Rattle.reader.proofs.Laws.{chunk-size}
-use Rattle.filecheck.specs.File.{FileAnswer, good, refused, part_of, well_formed, begins, passes, then_rest, file_from, file_ahead, file_by, file_of}
+use Rattle.filecheck.specs.File.{good, refused, part_of, well_formed, begins, passes, then_rest, file_from, file_ahead, file_by, file_of}
 use Rattle.filecheck.specs.declared.Part.{Part}
 use Rattle.filecheck.specs.declared.Part.TheVariants.{Data, Header, HeaderEnd, Other}
 
@@ -59,14 +58,6 @@ pub ahead-chunk : (o : Order) (s : List ℕ) (n place : ℕ) (ended : Bool) (cod
     (file_ahead o s (n + 1) (place + 12 + size))
 unfolding file_from
 ahead-chunk o s n place ended code size h e = ap (file_from o n place ended) (frames-chunk o s place h code size e) ∙ simp (chunk-size o s place code size e)
-
--- data, by whether the header was ended before it
-module _ (place : ℕ) (ended : Bool) (f : Bool → FileAnswer) where
-  pub data-ended : ended ≡ true → then_rest place (pick ended (gives true) (refuses 42)) f ≡ f ended
-  data-ended e = rw e
-
-  pub data-early : ended ≡ false → then_rest place (pick ended (gives true) (refuses 42)) f ≡ refused 42 place
-  data-early e = rw e
 
 -- the end of the file
 pub ahead-end : (o : Order) (s : List ℕ) (n place : ℕ) (ended : Bool) → length s ≤ place → file_ahead o s n place ended ≡ pick ended (good n) (refused 42 place)

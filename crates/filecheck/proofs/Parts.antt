@@ -8,14 +8,13 @@ use native.Mathlib.Omega.{arith}
 use denote.Enum.Declared.{tag_of}
 use lib.Dec.{eqb}
 use borrow.Author.Tests.{eqb-true}
+use Rattle.std.specs.Prelude.{Option, Some, None}
 use Rattle.num.specs.Choice.{pick}
 use Rattle.body.specs.Kind.{code_of, known, kind_in, kind_of}
 use Rattle.body.specs.Table.{shaped}
 use Rattle.body.specs.declared.kinds.Kind.{Kind}
 use Rattle.body.specs.declared.kinds.Kind.TheVariants.{SOFH, EOFH, Unknown}
 use Rattle.body.specs.declared.sampled.Shape.{Shape}
-use Rattle.body.specs.declared.sampled.Shaped.{Shaped}
-use Rattle.body.specs.declared.sampled.Shaped.TheVariants.{Samples, NoSamples}
 use Rattle.filecheck.specs.File.{part_by, part_of}
 use Rattle.filecheck.specs.declared.Part.{Part}
 use Rattle.filecheck.specs.declared.Part.TheVariants.{Data, Header, HeaderEnd, Other}
@@ -56,18 +55,18 @@ eofh-kind = refl
 
 -- what a part says of a kind
 abbrev pub Says : Part → Kind → Type 0
-Says Data k = (shape : Shape) × (shaped k ≡ Samples shape)
+Says Data k = (shape : Shape) × (shaped k ≡ Some shape)
 Says Header k = k ≡ SOFH
 Says HeaderEnd k = k ≡ EOFH
 Says Other k = Unit {0}
 
 module _ (n : ℕ) where
-  says-by : (x : Shaped) (a b : Bool) → shaped (kind_of n) ≡ x → eqb (code_of (kind_of n)) (code_of SOFH) ≡ a → eqb (code_of (kind_of n)) (code_of EOFH) ≡ b →
+  says-by : (x : Option Shape) (a b : Bool) → shaped (kind_of n) ≡ x → eqb (code_of (kind_of n)) (code_of SOFH) ≡ a → eqb (code_of (kind_of n)) (code_of EOFH) ≡ b →
       Says (part_by x (code_of (kind_of n))) (kind_of n)
-  says-by (Samples shape) a b e i j = (shape, e)
-  says-by NoSamples true b e i j = rw i (kind-told n SOFH (omega arith) i ∙ sofh-kind)
-  says-by NoSamples false true e i j = rw (i, j) (kind-told n EOFH (omega arith) j ∙ eofh-kind)
-  says-by NoSamples false false e i j = rw (i, j) tt
+  says-by (Some shape) a b e i j = (shape, e)
+  says-by None true b e i j = rw i (kind-told n SOFH (omega arith) i ∙ sofh-kind)
+  says-by None false true e i j = rw (i, j) (kind-told n EOFH (omega arith) j ∙ eofh-kind)
+  says-by None false false e i j = rw (i, j) tt
 
   pub says : Says (part_of (kind_of n)) (kind_of n)
   unfolding part_of
@@ -86,6 +85,6 @@ module _ (k : Kind) where
   unfolding part_of shaped
   is-eofh e = rw e
 
-  pub is-data : (shape : Shape) × (shaped k ≡ Samples shape) → part_of k ≡ Data
+  pub is-data : (shape : Shape) × (shaped k ≡ Some shape) → part_of k ≡ Data
   unfolding part_of
   is-data h = rw h.1

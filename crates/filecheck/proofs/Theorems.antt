@@ -5,6 +5,8 @@ use mathlib.Core.List.{List, [], ◌∷◌, ◌++◌, map}
 use mathlib.Core.Logic.{◌↔◌}
 use lib.Dec.{eqb}
 use lib.ListN.{length}
+use Rattle.std.specs.Prelude.{Result, Ok, Err}
+use Rattle.num.specs.Answer.{answered, refusal}
 use Rattle.num.specs.Choice.{pick}
 use Rattle.num.specs.declared.Order.{Order}
 use Rattle.num.specs.declared.Order.TheVariants.{Big}
@@ -14,34 +16,39 @@ use Rattle.body.specs.Kind.{known, kind_in, kind_of}
 use Rattle.body.specs.Table.{shaped}
 use Rattle.body.specs.Verdict.{verdict}
 use Rattle.reader.specs.Items.{items}
-use Rattle.filecheck.specs.File.{FileAnswer, good, refused, file_said, part_of, file_from, file_of}
+use Rattle.filecheck.specs.File.{FileAnswer, good, refused, bad_number, file_said, file_number, part_of, file_from, file_of}
 use Rattle.filecheck.specs.Due.{Begins, GoodFile, FirstWrong, Due}
-use Rattle.filecheck.specs.declared.FileChecked.{FileChecked}
-use Rattle.filecheck.specs.declared.FileChecked.TheVariants.{Good, NoHeader, HeaderNotEnded, SecondHeader, NotAChunk}
+use Rattle.filecheck.specs.declared.BadFile.{BadFile}
+use Rattle.filecheck.specs.declared.BadFile.TheVariants.{NoHeader, HeaderNotEnded, SecondHeader, NotAChunk}
 use Rattle.filecheck.proofs.Exactly.{file-exactly}
 use Rattle.filecheck.proofs.check.Reads as check
 
 -- ---- the answer's cases say different things, so the promise fixes the case
 
--- the case that says an answer
-case_of : FileAnswer → FileChecked
-case_of (good n) = Good n
-case_of (refused k place) =
-    pick (eqb k 41) NoHeader
+-- the result that says an answer
+unsaid : FileAnswer → Result ℕ BadFile
+unsaid (good n) = Ok n
+unsaid (refused k place) =
+    Err (pick (eqb k 41) NoHeader
     (pick (eqb k 42) (HeaderNotEnded place)
     (pick (eqb k 43) (SecondHeader place)
-    (NotAChunk place)))
+    (NotAChunk place))))
 
-case-back : (a : FileChecked) → case_of (file_said a) ≡ a
-unfolding case_of
-case-back (Good n) = refl
-case-back NoHeader = refl
-case-back (HeaderNotEnded place) = refl
-case-back (SecondHeader place) = refl
-case-back (NotAChunk place) = refl
+unsaid-said : (a : Result ℕ BadFile) → unsaid (file_said a) ≡ a
+unfolding unsaid
+unsaid-said (Ok n) = refl
+unsaid-said (Err NoHeader) = refl
+unsaid-said (Err (HeaderNotEnded place)) = refl
+unsaid-said (Err (SecondHeader place)) = refl
+unsaid-said (Err (NotAChunk place)) = refl
 
-pub file-told : (a b : FileChecked) → file_said a ≡ file_said b → a ≡ b
-file-told a b e = sym (case-back a) ∙ ap case_of e ∙ case-back b
+pub file-told : (a b : Result ℕ BadFile) → file_said a ≡ file_said b → a ≡ b
+file-told a b e = sym (unsaid-said a) ∙ ap unsaid e ∙ unsaid-said b
+
+-- the number of a result is that of the answer which it says
+pub number-said : (a : Result ℕ BadFile) → refusal (answered bad_number a) ≡ file_number (file_said a)
+number-said (Ok n) = refl
+number-said (Err bad) = refl
 
 -- ---- a good file
 
@@ -58,7 +65,7 @@ module _ (o : Order) (s : List ℕ) where
 -- ---- calls of check
 
 -- of any call that meets the promise of check, by its arguments, its result and what it leaves
-module _ (κs : _) (a : _) (r : FileChecked) (last : _) (met : check.Post κs a r last) where
+module _ (κs : _) (a : _) (r : Result ℕ BadFile) (last : _) (met : check.Post κs a r last) where
   abbrev order : Order
   order = a.0
 
@@ -66,30 +73,30 @@ module _ (κs : _) (a : _) (r : FileChecked) (last : _) (met : check.Post κs a 
   bytes = a.1.0.now
 
   -- It answers each case exactly where what the case says is due.
-  pub check-exactly : (c : FileChecked) → r ≡ c ↔ Due order bytes (file_said c)
+  pub check-exactly : (c : Result ℕ BadFile) → r ≡ c ↔ Due order bytes (file_said c)
   check-exactly c =
       let x = file-exactly order bytes (file_said c) in
       (λ e. x.0 (sym met ∙ ap file_said e), λ h. file-told r c (met ∙ x.1 h))
 
-  -- Good exactly where the file is good, with the number of its items;
-  pub good-exactly : (n : ℕ) → r ≡ Good n ↔ GoodFile order (frames order bytes) × (n ≡ length (items order bytes))
-  good-exactly n = check-exactly (Good n)
+  -- Ok exactly where the file is good, with the number of its items;
+  pub good-exactly : (n : ℕ) → r ≡ Ok n ↔ GoodFile order (frames order bytes) × (n ≡ length (items order bytes))
+  good-exactly n = check-exactly (Ok n)
 
   -- NoHeader exactly where it does not begin with a well-formed SOFH, an empty file too;
-  pub no-header-exactly : r ≡ NoHeader ↔ (Begins order (frames order bytes) → ⊥)
-  no-header-exactly = let x = check-exactly NoHeader in (λ e. (x.0 e).0, λ h. x.1 (h, refl))
+  pub no-header-exactly : r ≡ Err NoHeader ↔ (Begins order (frames order bytes) → ⊥)
+  no-header-exactly = let x = check-exactly (Err NoHeader) in (λ e. (x.0 e).0, λ h. x.1 (h, refl))
 
   -- else HeaderNotEnded exactly where the first thing wrong is data, or the end, with no well-formed EOFH before it;
-  pub not-ended-exactly : (p : ℕ) → r ≡ HeaderNotEnded p ↔ Begins order (frames order bytes) × FirstWrong order (frames order bytes) 42 p
-  not-ended-exactly p = check-exactly (HeaderNotEnded p)
+  pub not-ended-exactly : (p : ℕ) → r ≡ Err (HeaderNotEnded p) ↔ Begins order (frames order bytes) × FirstWrong order (frames order bytes) 42 p
+  not-ended-exactly p = check-exactly (Err (HeaderNotEnded p))
 
   -- SecondHeader exactly where it is a second SOFH;
-  pub second-exactly : (p : ℕ) → r ≡ SecondHeader p ↔ Begins order (frames order bytes) × FirstWrong order (frames order bytes) 43 p
-  second-exactly p = check-exactly (SecondHeader p)
+  pub second-exactly : (p : ℕ) → r ≡ Err (SecondHeader p) ↔ Begins order (frames order bytes) × FirstWrong order (frames order bytes) 43 p
+  second-exactly p = check-exactly (Err (SecondHeader p))
 
   -- and NotAChunk exactly where it is a frame that is no chunk.
-  pub not-a-chunk-exactly : (p : ℕ) → r ≡ NotAChunk p ↔ Begins order (frames order bytes) × FirstWrong order (frames order bytes) 44 p
-  not-a-chunk-exactly p = check-exactly (NotAChunk p)
+  pub not-a-chunk-exactly : (p : ℕ) → r ≡ Err (NotAChunk p) ↔ Begins order (frames order bytes) × FirstWrong order (frames order bytes) 44 p
+  not-a-chunk-exactly p = check-exactly (Err (NotAChunk p))
 
 -- ---- small files, in big order
 

@@ -1,5 +1,5 @@
 -- When each answer of the check of a file is due, in the words of the rules.
-use Rattle.std.specs.Prelude.{ℕ, ◌<◌, ◌≡◌, true, false, List, [], ◌∷◌, ◌⊎◌, eqb, length, take, drop}
+use Rattle.std.specs.Prelude.{ℕ, ◌<◌, ◌≡◌, true, false, List, [], ◌∷◌, ◌⊎◌, eqb, length, take, drop, Some}
 use Rattle.num.specs.Choice.{pick}
 use Rattle.num.specs.declared.Order.{Order}
 use Rattle.frame.specs.Frames.{Frame, of_chunk, is_chunk, frames, covered}
@@ -8,7 +8,6 @@ use Rattle.body.specs.Table.{shaped}
 use Rattle.body.specs.declared.kinds.Kind.{Kind}
 use Rattle.body.specs.declared.kinds.Kind.TheVariants.{SOFH, EOFH}
 use Rattle.body.specs.declared.sampled.Shape.{Shape}
-use Rattle.body.specs.declared.sampled.Shaped.TheVariants.{Samples}
 use Rattle.reader.specs.Items.{items}
 use Rattle.filecheck.specs.File.{FileAnswer, good, refused, well_formed}
 
@@ -24,7 +23,7 @@ WellFormed o k f = of_chunk ⊥ (λ type body. (kind_of type ≡ k) × (well_for
 
 -- a data chunk, malformed ones too: its samples have a shape
 abbrev pub IsData : Frame → Type 0
-IsData f = of_chunk ⊥ (λ type body. (shape : Shape) × (shaped (kind_of type) ≡ Samples shape)) f
+IsData f = of_chunk ⊥ (λ type body. (shape : Shape) × (shaped (kind_of type) ≡ Some shape)) f
 
 -- a frame that is no chunk
 abbrev pub NoChunk : Frame → Type 0

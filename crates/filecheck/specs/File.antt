@@ -1,5 +1,5 @@
 -- The check of a file: it begins with a header, which is ended before any data, and it is made of whole chunks.
-use Rattle.std.specs.Prelude.{ℕ, ◌+◌, Bool, true, false, List, [], ◌∷◌, eqb, length, drop}
+use Rattle.std.specs.Prelude.{ℕ, ◌+◌, Bool, true, false, List, [], ◌∷◌, eqb, length, drop, Option, Some, None, Result, Ok, Err}
 use Rattle.num.specs.Answer.{Answer, gives, refuses}
 use Rattle.num.specs.Choice.{pick, either}
 use Rattle.num.specs.declared.Order.{Order}
@@ -10,10 +10,9 @@ use Rattle.body.specs.Table.{shaped}
 use Rattle.body.specs.Verdict.{verdict}
 use Rattle.body.specs.declared.kinds.Kind.{Kind}
 use Rattle.body.specs.declared.kinds.Kind.TheVariants.{SOFH, EOFH}
-use Rattle.body.specs.declared.sampled.Shaped.{Shaped}
-use Rattle.body.specs.declared.sampled.Shaped.TheVariants.{Samples, NoSamples}
-use Rattle.filecheck.specs.declared.FileChecked.{FileChecked}
-use Rattle.filecheck.specs.declared.FileChecked.TheVariants.{Good, NoHeader, HeaderNotEnded, SecondHeader, NotAChunk}
+use Rattle.body.specs.declared.sampled.Shape.{Shape}
+use Rattle.filecheck.specs.declared.BadFile.{BadFile}
+use Rattle.filecheck.specs.declared.BadFile.TheVariants.{NoHeader, HeaderNotEnded, SecondHeader, NotAChunk}
 use Rattle.filecheck.specs.declared.Part.{Part}
 use Rattle.filecheck.specs.declared.Part.TheVariants.{Data, Header, HeaderEnd, Other}
 
@@ -23,13 +22,24 @@ pub data FileAnswer : Type 0 where
   -- a refusal, by its number and its place
   refused : ℕ → ℕ → FileAnswer
 
+-- the number of each thing that is wrong with a file
+abbrev pub bad_number : BadFile → ℕ
+bad_number NoHeader = 41
+bad_number (HeaderNotEnded place) = 42
+bad_number (SecondHeader place) = 43
+bad_number (NotAChunk place) = 44
+
+-- the place where it stands
+abbrev pub bad_place : BadFile → ℕ
+bad_place NoHeader = 0
+bad_place (HeaderNotEnded place) = place
+bad_place (SecondHeader place) = place
+bad_place (NotAChunk place) = place
+
 -- what each case of the answer says
-abbrev pub file_said : FileChecked → FileAnswer
-file_said (Good items) = good items
-file_said NoHeader = refused 41 0
-file_said (HeaderNotEnded place) = refused 42 place
-file_said (SecondHeader place) = refused 43 place
-file_said (NotAChunk place) = refused 44 place
+abbrev pub file_said : Result ℕ BadFile → FileAnswer
+file_said (Ok items) = good items
+file_said (Err bad) = refused (bad_number bad) (bad_place bad)
 
 -- the number of a refusal, 0 for a good file
 abbrev pub file_number : FileAnswer → ℕ
@@ -37,9 +47,9 @@ file_number (good items) = 0
 file_number (refused number place) = number
 
 -- the part that a kind has in a file: data, a header (SOFH), a header's end (EOFH), or another
-abbrev pub part_by : Shaped → ℕ → Part
-part_by (Samples shape) code = Data
-part_by NoSamples code = pick (eqb code (code_of SOFH)) Header (pick (eqb code (code_of EOFH)) HeaderEnd Other)
+abbrev pub part_by : Option Shape → ℕ → Part
+part_by (Some shape) code = Data
+part_by None code = pick (eqb code (code_of SOFH)) Header (pick (eqb code (code_of EOFH)) HeaderEnd Other)
 
 unfoldable pub part_of : Kind → Part
 part_of k = part_by (shaped k) (code_of k)

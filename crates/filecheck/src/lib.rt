@@ -3,39 +3,36 @@
 
 ghost use Rattle.std.specs.Prelude.{◌≡◌, ◌<◌, ◌≤◌, length};
 ghost use Rattle.body.specs.Verdict.{verdict};
-ghost use Rattle.filecheck.specs.File.{file_said, file_number, part_of, is_good, file_ahead, file_of};
+ghost use Rattle.filecheck.specs.File.{file_said, bad_number, part_of, is_good, file_ahead, file_of};
 ghost use Rattle.filecheck.specs.Inner.Turn.{turn_said, forward, Turned};
 
-use body::{Checked, Kind};
+use body::Kind;
 use frame::Ahead;
-use num::Order;
+use num::{Numbered, Order};
 
-// What the check of a file answers.
-#[derive(Clone, Copy)]
-pub enum FileChecked {
-    // A good file, with the number of its items.
-    Good(usize),
-    // The file does not begin with a well-formed SOFH. Number 41.
+// Why a file is not good.
+#[derive(Clone, Copy, PartialEq, Eq)]
+pub enum BadFile {
+    // The file does not begin with a well-formed SOFH: number 41.
     NoHeader,
-    // Data, or the end of the file, stands at this place before a well-formed EOFH. Number 42.
+    // Data, or the end of the file, stands at this place before a well-formed EOFH: number 42.
     HeaderNotEnded(usize),
-    // A second SOFH stands at this place. Number 43.
+    // A second SOFH stands at this place: number 43.
     SecondHeader(usize),
-    // A skipped or unfinished item stands at this place. Number 44.
+    // A skipped or unfinished item stands at this place: number 44.
     NotAChunk(usize),
 }
 
-impl FileChecked {
-    // The number of the refusal, 41 to 44; 0 for a good file.
-    pub fn number(self) -> u32
-        ensures { result ≡ file_number (file_said self) }
-    {
+// The number of the refusal: 41 to 44. A match, since a case has its place with it, and so is no number by `as`.
+impl Numbered for BadFile {
+    ghost number_of = { bad_number };
+
+    fn number(self) -> u32 {
         match self {
-            FileChecked::Good(_) => 0,
-            FileChecked::NoHeader => 41,
-            FileChecked::HeaderNotEnded(_) => 42,
-            FileChecked::SecondHeader(_) => 43,
-            FileChecked::NotAChunk(_) => 44,
+            BadFile::NoHeader => 41,
+            BadFile::HeaderNotEnded(_) => 42,
+            BadFile::SecondHeader(_) => 43,
+            BadFile::NotAChunk(_) => 44,
         }
     }
 }
@@ -49,14 +46,14 @@ enum Part {
     Other,
 }
 
-// What comes of one item: the check goes on at a place, the header ended or not, or it stops with an answer.
+// How far a file is good: up to a place between two items, and whether the header was ended before it.
 #[derive(Clone, Copy)]
-enum Turn {
-    Goes { to: usize, ended: bool },
-    Stops(FileChecked),
+struct Reach {
+    place: usize,
+    ended: bool,
 }
 
-// The part of a kind.
+// The part of a kind. No `From`: a conversion would not say that this is a rule of files (specs/File.antt `part_of`).
 #[tactic(auto, unfolding(crate::specs::File::part_of, body::specs::Table::shaped))]
 fn part_of(kind: Kind) -> Part
     ensures { result ≡ part_of kind }
@@ -73,94 +70,82 @@ fn part_of(kind: Kind) -> Part
 fn well_formed(order: Order, kind: Kind, body: &[u8]) -> bool
     ensures { result ≡ is_good (verdict order kind body.now) }
 {
-    match body::check(order, kind, body) {
-        Checked::Good => true,
-        Checked::Malformed(_) => false,
-    }
+    body::check(order, kind, body).is_ok()
 }
 
 // The first item: the file has to begin with a well-formed SOFH.
-fn begin(order: Order, s: &[u8]) -> Turn
+fn begin(order: Order, s: &[u8]) -> Result<Reach, BadFile>
     ensures { (turn_said order s.now 0 result ≡ file_of order s.now)
         × forward 0 (length s.now) result }
 {
     let Ahead::Chunk { code, size } = frame::ahead_of(order, s, 0) else {
-        return Turn::Stops(FileChecked::NoHeader);
+        return Err(BadFile::NoHeader);
     };
     let from = frame::HEADER;
     let to = from + size;
     let kind = body::kind_of(code);
     let Part::Header = part_of(kind) else {
-        return Turn::Stops(FileChecked::NoHeader);
+        return Err(BadFile::NoHeader);
     };
     if well_formed(order, kind, &s[from..to]) {
-        Turn::Goes { to, ended: false }
+        Ok(Reach {
+            place: to,
+            ended: false,
+        })
     } else {
-        Turn::Stops(FileChecked::NoHeader)
+        Err(BadFile::NoHeader)
     }
 }
 
 // An item after the first.
-fn next(order: Order, s: &[u8], place: usize, ended: bool) -> Turn
-    requires { place < length s.now }
-    ensures { Turned order s.now place ended result }
+#[tactic(auto, using(crate::proofs::Turns::ends))]
+fn next(order: Order, s: &[u8], was: Reach) -> Result<Reach, BadFile>
+    requires { was.place < length s.now }
+    ensures { Turned order s.now was.place was.ended result }
 {
+    let Reach { place, ended } = was;
     let Ahead::Chunk { code, size } = frame::ahead_of(order, s, place) else {
-        return Turn::Stops(FileChecked::NotAChunk(place));
+        return Err(BadFile::NotAChunk(place));
     };
     let from = place + frame::HEADER;
     let to = from + size;
     let kind = body::kind_of(code);
     match part_of(kind) {
-        Part::Data => {
-            if ended {
-                Turn::Goes { to, ended }
-            } else {
-                Turn::Stops(FileChecked::HeaderNotEnded(place))
-            }
-        }
-        Part::Header => Turn::Stops(FileChecked::SecondHeader(place)),
-        Part::HeaderEnd => Turn::Goes {
-            to,
+        Part::Data if !ended => Err(BadFile::HeaderNotEnded(place)),
+        Part::Header => Err(BadFile::SecondHeader(place)),
+        Part::HeaderEnd => Ok(Reach {
+            place: to,
             ended: ended | well_formed(order, kind, &s[from..to]),
-        },
-        Part::Other => Turn::Goes { to, ended },
+        }),
+        Part::Data | Part::Other => Ok(Reach { place: to, ended }),
     }
 }
 
-// The items from a place on, one lying before it, and the header ended already or not.
-fn rest(order: Order, s: &[u8], from: usize, already: bool) -> FileChecked
-    requires { (0 < from) × (from ≤ length s.now) }
-    ensures { file_said result ≡ file_ahead order s.now 1 from already }
+// The items after the first, from the reach of the first on: how many items the file has.
+fn rest(order: Order, s: &[u8], first: Reach) -> Result<usize, BadFile>
+    requires { (0 < first.place) × (first.place ≤ length s.now) }
+    ensures { file_said result ≡ file_ahead order s.now 1 first.place first.ended }
 {
-    let mut place = from;
-    let mut ended = already;
+    let mut reach = first;
     let mut items = 1;
-    while place < s.len() {
-        match next(order, s, place, ended) {
-            Turn::Goes { to, ended: after } => {
-                place = to;
-                ended = after;
-                items += 1;
-            }
-            Turn::Stops(answer) => return answer,
-        }
+    // No range says where the items begin: each ends where the next begins.
+    while reach.place < s.len() {
+        reach = next(order, s, reach)?;
+        items += 1;
     }
-    if ended {
-        FileChecked::Good(items)
+    if reach.ended {
+        Ok(items)
     } else {
-        FileChecked::HeaderNotEnded(place)
+        Err(BadFile::HeaderNotEnded(reach.place))
     }
 }
 
 // Checks a whole file, whose order is given: a well-formed SOFH at its start, a well-formed EOFH before any data, no
-// second SOFH, and whole chunks to the end. Good has the number of items. Refused: NoHeader 41 first; then what comes
-// first in the file of HeaderNotEnded 42, SecondHeader 43 and NotAChunk 44, each with its place.
-pub fn check(order: Order, s: &[u8]) -> FileChecked
+// second SOFH, and whole chunks to the end. The answer is the number of its items. Refused: NoHeader 41 first; then
+// what comes first in the file of HeaderNotEnded 42, SecondHeader 43 and NotAChunk 44, each with its place.
+pub fn check(order: Order, s: &[u8]) -> Result<usize, BadFile>
     ensures { file_said result ≡ file_of order s.now }
 {
-    match begin(order, s) {
-        Turn::Goes { to, ended } => rest(order, s, to, ended),
-        Turn::Stops(answer) => answer,
-    }
+    let first = begin(order, s)?;
+    rest(order, s, first)
 }

@@ -1,10 +1,8 @@
 // A first program: the items of the recording on standard input, and the samples of each chunk that is ready.
 #![tactic(auto)]
 
-use frame::OrderFound;
 use num::Order;
 use reader::{Cursor, Item, Stepped};
-use samples::Copied;
 use show::print;
 use std::io;
 
@@ -15,7 +13,7 @@ fn main(rt: HostRuntime) -> io::Result<()> {
 }
 
 fn recording(rt: &impl Print, s: &[u8]) -> io::Result<()> {
-    if let OrderFound::Is(order) = frame::find_order(s) {
+    if let Ok(order) = frame::find_order(s) {
         items(rt, order, s)?;
     }
     Ok(())
@@ -26,11 +24,10 @@ fn items(rt: &impl Print, order: Order, s: &[u8]) -> io::Result<()> {
     let mut cursor = Cursor::new();
     for _ in 0..s.len() {
         let stepped = cursor.step(order, s);
-        let item = stepped.item;
-        if let Item::End = item {
+        if let Item::End = stepped.item {
             break;
         }
-        print(rt, listing::item_line(item))?;
+        print(rt, listing::item_line(stepped.item))?;
         channel_zero(rt, order, s, stepped)?;
         cursor = stepped.cursor;
     }
@@ -40,7 +37,7 @@ fn items(rt: &impl Print, order: Order, s: &[u8]) -> io::Result<()> {
 // The 16-bit numbers of channel 0, I before Q, where the step gave a ready chunk that has such.
 fn channel_zero(rt: &impl Print, order: Order, s: &[u8], stepped: Stepped) -> io::Result<()> {
     let mut out = [0i16; 34816];
-    if let Copied::Count(n) = samples::shorts_of(order, s, stepped, 0, &mut out) {
+    if let Ok(n) = samples::shorts_of(order, s, stepped, 0, &mut out) {
         show::print_shorts(rt, &out, n)?;
     }
     Ok(())

@@ -7,7 +7,6 @@ ghost use Rattle.reader.specs.Item.{item_said};
 ghost use Rattle.growing.specs.Held as Held;
 ghost use Rattle.growing.specs.Held.{held};
 
-use frame::OrderFound;
 use num::Order;
 use reader::{Cursor, Item};
 use show::print;
@@ -19,49 +18,45 @@ fn main(rt: HostRuntime) -> io::Result<()> {
     follow(&rt, &mut rt.reader(), &mut bytes)
 }
 
-// The bytes that have come stand at the start of the slice, n of them. Each turn has one more at least, so there are no
-// more turns than the slice has bytes.
+// The bytes that have come stand at the start of the slice, n of them; they are lent anew at each turn, so they stand
+// beside the cursor and not in a struct with it. Each turn has one more at least, so there are no more turns than the
+// slice has bytes.
 fn follow(rt: &impl Print, input: &mut impl Read, bytes: &mut [u8]) -> io::Result<()> {
     let mut cursor = Cursor::new();
     let mut n = 0;
-    let mut now = part(input, bytes, 0)?;
-    while n < now {
+    for _ in 0..bytes.len() {
+        let now = part(input, bytes, n)?;
+        if now == n {
+            break;
+        }
         n = now;
-        cursor = grown(rt, &bytes[0..n], cursor)?;
-        now = part(input, bytes, n)?;
+        cursor = grown(rt, &bytes[..n], cursor)?;
     }
-    ended(rt, &bytes[0..n], cursor)
+    ended(rt, &bytes[..n], cursor)
 }
 
 // Reads the bytes that come next: 64 at most, so that a file that is whole comes in parts too. The answer is how many
-// bytes there are then; it is `from` at the end of the input, and where the slice is full.
+// bytes there are then; it is `from` at the end of the input, and where the slice is full. An Option would be no
+// plainer: the loop goes on while the number grows.
 fn part(input: &mut impl Read, bytes: &mut [u8], from: usize) -> io::Result<usize>
     requires { from ≤ length bytes.old }
     ensures { IfOk result (λ now. (from ≤ now) × (now ≤ length bytes.new)) }
 {
-    let to = further(from, bytes.len());
-    let more = input.read(&mut bytes[from..to])?;
+    let most = (bytes.len() - from).min(64);
+    let more = input.read(&mut bytes[from..from + most])?;
     Ok(from + more)
 }
 
-// 64 bytes on, or the end where it is nearer.
-fn further(from: usize, end: usize) -> usize
-    requires { from ≤ end }
-    ensures { (from ≤ result) × (result ≤ end) }
-{
-    if end - from < 64 { end } else { from + 64 }
-}
-
 // More bytes have come: says how many there are, and reads on from the cursor. The byte order is that of the first sync
-// word, so once it is found it stays.
+// word, so once it is found it stays. Output, bytes and cursor go on one by one: a struct would be made anew each turn.
 fn grown(rt: &impl Print, s: &[u8], cursor: Cursor) -> io::Result<Cursor> {
     print(rt, listing::word(b"read"))?;
     print(rt, listing::number(s.len()))?;
     print(rt, listing::newline())?;
-    if let OrderFound::Is(order) = frame::find_order(s) {
-        return read_on(rt, order, s, cursor);
-    }
-    Ok(cursor)
+    let Ok(order) = frame::find_order(s) else {
+        return Ok(cursor);
+    };
+    read_on(rt, order, s, cursor)
 }
 
 // One step after the other, up to an unfinished end or the end of the bytes. The cursor there is the one from which to
@@ -73,12 +68,11 @@ fn read_on(rt: &impl Print, order: Order, s: &[u8], cursor: Cursor) -> io::Resul
     for _ in 0..s.len() {
         let stepped = at.step(order, s);
         let item = stepped.item;
-        let next = stepped.cursor;
         if waits(item) {
             return Ok(at);
         }
         print(rt, listing::item_line(item))?;
-        at = next;
+        at = stepped.cursor;
     }
     Ok(at)
 }
@@ -87,34 +81,17 @@ fn read_on(rt: &impl Print, order: Order, s: &[u8], cursor: Cursor) -> io::Resul
 fn waits(item: Item) -> bool
     ensures { result ≡ Held.waits (item_said item) }
 {
-    match item {
-        Item::PastEnd
-        | Item::BadState
-        | Item::End
-        | Item::Unfinished {
-            place: _,
-            length: _,
-        } => true,
-        Item::Skipped {
-            place: _,
-            length: _,
-            cause: _,
-        }
-        | Item::Chunk {
-            place: _,
-            code: _,
-            size: _,
-            verdict: _,
-        } => false,
-    }
+    matches!(
+        item,
+        Item::PastEnd | Item::BadState | Item::End | Item::Unfinished { .. }
+    )
 }
 
 // The input has ended: a line for an unfinished end.
 fn ended(rt: &impl Print, s: &[u8], cursor: Cursor) -> io::Result<()> {
-    if let OrderFound::Is(order) = frame::find_order(s) {
+    if let Ok(order) = frame::find_order(s) {
         let stepped = cursor.step(order, s);
-        let item = stepped.item;
-        print(rt, listing::item_line(item))?;
+        print(rt, listing::item_line(stepped.item))?;
     }
     Ok(())
 }

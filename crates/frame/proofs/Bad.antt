@@ -4,7 +4,6 @@ use mathlib.Core.Path.{◌≡◌, refl, ◌∙◌}
 use mathlib.Core.Bool.{Bool, true, false}
 use mathlib.Core.List.{List}
 use mathlib.Core.Logic.{◌↔◌}
-use native.Mathlib.Omega.{arith}
 use lib.Dec.{leb, eqb}
 use lib.ListN.{length}
 use borrow.Author.Tests.{le-leb, lt-leb, leb-true, leb-false, ne_eqb, eqb-false}
@@ -24,11 +23,11 @@ pub record Headed (o : Order) (l : List ℕ) : Type 0 where
 
 large-by : (b : Bool) → pick b Uneven Large ≡ Large → b ≡ false
 large-by false e = refl
-large-by true e = let y : ◌≡◌ {A = ℕ} 0 1 = cc in absurd (omega arith)
+large-by true e = absurd cc
 
 uneven-by : (b c : Bool) → pick b Uneven Large ≡ Uneven → both b c ≡ false → (b ≡ true) × (c ≡ false)
 uneven-by true c e h = (refl, h)
-uneven-by false c e h = let y : ◌≡◌ {A = ℕ} 0 1 = cc in absurd (omega arith)
+uneven-by false c e h = absurd cc
 
 module _ (o : Order) (l : List ℕ) where
   -- no sync: the sync word does not stand there, nor do the bytes that are left begin it
@@ -36,26 +35,26 @@ module _ (o : Order) (l : List ℕ) where
   no-sync-only =
       shows-by (λ (a : At). a ≡ NoSync → (starts (sync_bytes o) l ≡ false) × (begun o l ≡ false)) o l record {
         none = λ b g e. (b, g);
-        begins = λ b g e. let z : ◌≡◌ {A = ℕ} 0 1 = cc in absurd (omega arith);
-        short = λ b h e. let z : ◌≡◌ {A = ℕ} 0 1 = cc in absurd (omega arith);
-        bad = λ b h g e. let z : ◌≡◌ {A = ℕ} 0 1 = cc in absurd (omega arith);
-        cut = λ b h g m e. let z : ◌≡◌ {A = ℕ} 0 1 = cc in absurd (omega arith);
-        whole = λ b h g m e. let z : ◌≡◌ {A = ℕ} 0 1 = cc in absurd (omega arith);
+        begins = λ b g e. absurd cc;
+        short = λ b h e. absurd cc;
+        bad = λ b h g e. absurd cc;
+        cut = λ b h g m e. absurd cc;
+        whole = λ b h g m e. absurd cc;
       }
 
   pub no-sync-exactly : (shows o l ≡ NoSync) ↔ ((starts (sync_bytes o) l ≡ false) × (begun o l ≡ false))
   no-sync-exactly = (no-sync-only, λ h. shows-begun o l h.0 ∙ rw h.1)
 
   -- a bad header: a whole header with a size that is not good, of the sort that is named
-  bad-only : (w : BadSize) → shows o l ≡ Bad w → Headed o l × (good_size (size_in o l) ≡ false) × (bad_size (size_in o l) ≡ w)
+  pub bad-only : (w : BadSize) → shows o l ≡ Bad w → Headed o l × (good_size (size_in o l) ≡ false) × (bad_size (size_in o l) ≡ w)
   bad-only w =
       shows-by (λ (a : At). a ≡ Bad w → Headed o l × (good_size (size_in o l) ≡ false) × (bad_size (size_in o l) ≡ w)) o l record {
-        none = λ b g e. let z : ◌≡◌ {A = ℕ} 0 1 = cc in absurd (omega arith);
-        begins = λ b g e. let z : ◌≡◌ {A = ℕ} 0 1 = cc in absurd (omega arith);
-        short = λ b h e. let z : ◌≡◌ {A = ℕ} 0 1 = cc in absurd (omega arith);
+        none = λ b g e. absurd cc;
+        begins = λ b g e. absurd cc;
+        short = λ b h e. absurd cc;
         bad = λ b h g e. (record { sync = b; whole = h }, g, cc);
-        cut = λ b h g m e. let z : ◌≡◌ {A = ℕ} 0 1 = cc in absurd (omega arith);
-        whole = λ b h g m e. let z : ◌≡◌ {A = ℕ} 0 1 = cc in absurd (omega arith);
+        cut = λ b h g m e. absurd cc;
+        whole = λ b h g m e. absurd cc;
       }
 
   bad-there : (w : BadSize) → Headed o l → good_size (size_in o l) ≡ false → bad_size (size_in o l) ≡ w → shows o l ≡ Bad w

@@ -38,11 +38,11 @@ pub record Header (o : Order) (l : List ℕ) (t n : ℕ) : Type 0 where
 pub complete : (o : Order) (l : List ℕ) (t n : ℕ) → shows o l ≡ Complete t n → Header o l t n
 complete o l t n =
     shows-by (λ (a : At). a ≡ Complete t n → Header o l t n) o l record {
-      none = λ b g e. let z : ◌≡◌ {A = ℕ} 0 1 = cc in absurd (omega arith);
-      begins = λ b g e. let z : ◌≡◌ {A = ℕ} 0 1 = cc in absurd (omega arith);
-      short = λ b h e. let z : ◌≡◌ {A = ℕ} 0 1 = cc in absurd (omega arith);
-      bad = λ b h g e. let z : ◌≡◌ {A = ℕ} 0 1 = cc in absurd (omega arith);
-      cut = λ b h g m e. let z : ◌≡◌ {A = ℕ} 0 1 = cc in absurd (omega arith);
+      none = λ b g e. absurd cc;
+      begins = λ b g e. absurd cc;
+      short = λ b h e. absurd cc;
+      bad = λ b h g e. absurd cc;
+      cut = λ b h g m e. absurd cc;
       whole = λ b h g m e.
           let q : size_in o l ≡ n = cc in
           record { sync = b; type = cc; size = q; good = rw (← q) g; fits = omega arith };
@@ -163,8 +163,8 @@ width-cut o l e = rw e
 skip-by : (o : Order) (l : List ℕ) (a : At) → stops a ≡ false → width (frame_at a (gap o l) l) ≡ gap o l
 skip-by o l NoSync h = length-take-le (gap o l) l (gap-le o l)
 skip-by o l (Bad b) h = length-take-le (gap o l) l (gap-le o l)
-skip-by o l Unfinished h = let z : ◌≡◌ {A = ℕ} 0 1 = cc in absurd (omega arith)
-skip-by o l (Complete t n) h = let z : ◌≡◌ {A = ℕ} 0 1 = cc in absurd (omega arith)
+skip-by o l Unfinished h = absurd cc
+skip-by o l (Complete t n) h = absurd cc
 
 pub width-skip : (o : Order) (l : List ℕ) → stops (shows o l) ≡ false → width (first o l) ≡ gap o l
 width-skip o l h = skip-by o l (shows o l) h
@@ -203,8 +203,8 @@ module _ (o : Order) (s : List ℕ) (p : ℕ) (h : p < length s) where
   passed : (a : At) (stray : Stray) → shows o (drop p s) ≡ a → ahead_by a ≡ Stretch stray → first o (drop p s) ≡ skipped stray (take (gap o (drop p s)) (drop p s))
   passed NoSync stray e k = let q : Stray.NoSync ≡ stray = cc in rw (e, q)
   passed (Bad b) stray e k = let q : Stray.Bad b ≡ stray = cc in rw (e, q)
-  passed Unfinished stray e k = let z : ◌≡◌ {A = ℕ} 0 1 = cc in absurd (omega arith)
-  passed (Complete t n) stray e k = let z : ◌≡◌ {A = ℕ} 0 1 = cc in absurd (omega arith)
+  passed Unfinished stray e k = absurd cc
+  passed (Complete t n) stray e k = absurd cc
 
   pub frames-skip : (stray : Stray) → ahead_of o (drop p s) ≡ Stretch stray → frames o (drop p s) ≡ skipped stray (take (gap o (drop p s)) (drop p s)) ∷ frames o (drop (p + gap o (drop p s)) s)
   frames-skip stray k =
@@ -218,7 +218,7 @@ module _ (o : Order) (s : List ℕ) (p : ℕ) (h : p < length s) where
   no-chunk said x k End e n = absurd (omega (arith, is-end o (drop p s) e, length-drop p s))
   no-chunk said x k Cut e n = ap said (frames-cut (is-cut o (drop p s) e)) ∙ k _ _ refl
   no-chunk said x k (Stretch stray) e n = ap said (frames-skip stray e) ∙ k _ _ refl
-  no-chunk said x k (Chunk code size) e n = let z : ◌≡◌ {A = ℕ} 0 1 = cc in absurd (omega arith)
+  no-chunk said x k (Chunk code size) e n = absurd cc
 
 -- a chunk that was read has a good size
 sized-by : (o : Order) (l : List ℕ) (a : At) → shows o l ≡ a → of_chunk (Unit {0}) (λ type body. good_size (length body) ≡ true) (frame_at a (gap o l) l)

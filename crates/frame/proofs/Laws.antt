@@ -2,26 +2,25 @@
 use Prim.Native.Nat.{ℕ, zero, suc, ◌+◌, ◌-◌, ◌^◌, ◌≤◌, ◌<◌}
 use mathlib.Core.Path.{◌≡◌, refl, ap, sym, ◌∙◌}
 use mathlib.Core.List.{List, [], ◌∷◌, ◌++◌}
-use mathlib.Core.Bool.{Bool, true, false}
+use mathlib.Core.Bool.{Bool, true, false, ◌&&◌, ◌||◌}
 use native.Mathlib.Numerals.{add-one}
 use native.Mathlib.Omega.{arith}
-use lib.ListN.{length, get_or, drop, take, take-append-drop, drop_of_length-le}
-use lib.Seq.{drop-cons, drop-drop, get_or-drop, length-take-le, take-append_seam}
+use lib.ListN.{length, get_or, drop, take, take-append-drop, drop_of_length-le, length-drop}
+use lib.Seq.{take-length, drop-cons, drop-drop, get_or-drop, length-take-le, take-append_seam}
 use lib.Dec.{eqb, leb, ltb}
-use borrow.Author.Tests.{eq-eqb, ne_eqb, eqb-true, lt-ltb, le-ltb, ltb-true, ltb-false, leb-true, leb-false}
+use borrow.Author.Tests.{lt-leb, le-leb, eq-eqb, ne_eqb, eqb-true, lt-ltb, le-ltb, ltb-true, ltb-false, leb-true, leb-false, eqb-false}
 use mathlib.Core.Logic.{◌⊎◌, inl, inr}
+use Rattle.std.specs.Prelude.{Option, Some, None}
+use Rattle.std.specs.List.{starts_with}
 use Rattle.num.specs.Answer.{gives, refuses}
 use Rattle.num.specs.Choice.{pick, both}
 use Rattle.num.specs.Number.{unsigned, unsigned_at, bytes_of}
 use Rattle.num.specs.declared.Order.{Order}
 use Rattle.num.specs.declared.Order.TheVariants.{Big, Little}
-use Rattle.num.proofs.Laws.{Bytes, at-some, bytes-length, read-written, written-read}
+use Rattle.num.proofs.Laws.{Bytes, at-none, at-some, bytes-length, read-written, written-read}
 use Rattle.num.proofs.Tests.{both-true, both-false}
 use Rattle.frame.specs.declared.At.{At}
 use Rattle.frame.specs.declared.At.TheVariants.{NoSync, Bad, Unfinished, Complete}
-use Rattle.frame.specs.declared.Found.{Found}
-use Rattle.frame.specs.declared.Found.TheVariants.{Place, Nothing}
-use Rattle.frame.specs.declared.BadSize.{BadSize}
 use Rattle.frame.specs.Place.{sync_bytes, starts, begun, word, type_in, size_in, good_size, bad_size, shows, stops, gap, search_from, order_of}
 
 -- ---- the front of a list
@@ -40,7 +39,7 @@ starts-short (x ∷ w) (y ∷ l) h = rw (starts-short w l (omega arith)) (both-f
 pub starts-split : (w l : List ℕ) → starts w l ≡ true → l ≡ w ++ drop (length w) l
 unfolding starts
 starts-split [] l h = refl
-starts-split (x ∷ w) [] h = let z : ◌≡◌ {A = ℕ} 0 1 = cc in absurd (omega arith)
+starts-split (x ∷ w) [] h = absurd cc
 starts-split (x ∷ w) (y ∷ l) h =
     let t = both-true (eqb y x) (starts w l) h in
     rw (eqb-true y x t.0, ← starts-split w l t.1)
@@ -59,27 +58,16 @@ starts-back (x ∷ w) (y ∷ l) h t =
     let b = both-true (eqb x y) (starts l w) t in
     rw (eq-eqb y x (sym (eqb-true x y b.0))) (starts-back w l (omega arith) b.1)
 
--- one byte more of a comparison: of a word with a stream, or of a stream's end with a word
-pub starts-step : (w s : List ℕ) (j k : ℕ) → j < length w → k < length s →
-    starts (drop j w) (drop k s) ≡ both (eqb (get_or s k 0) (get_or w j 0)) (starts (drop (j + 1) w) (drop (k + 1) s))
+-- the test of slices, l.starts_with(w)
+with-by : (x y : ℕ) (b c : Bool) (t : Bool) → eqb x y ≡ t → b ≡ c → t && b ≡ both (eqb y x) c
+with-by x y b c true e h = rw (eq-eqb y x (sym (eqb-true x y e))) h
+with-by x y b c false e h = rw (ne_eqb y x (λ q. eqb-false x y e (sym q)))
+
+pub starts-with : (w l : List ℕ) → starts_with eqb l w ≡ starts w l
 unfolding starts
-starts-step w s j k hw hs = rw (drop-cons w j 0 hw, drop-cons s k 0 hs, add-one j, add-one k)
-
--- where it has come as far as k: the bytes there decide, or it goes on behind them
-pub starts-differ : (w s : List ℕ) (p k : ℕ) → k < length w → p + k < length s → starts w (drop p s) ≡ starts (drop k w) (drop (p + k) s) →
-    (get_or s (p + k) 0 ≡ get_or w k 0 → ⊥) → starts w (drop p s) ≡ false
-starts-differ w s p k hw hs e d = e ∙ starts-step w s k (p + k) hw hs ∙ rw (ne_eqb _ _ d)
-
-pub starts-agree : (w s : List ℕ) (p k : ℕ) → k < length w → p + k < length s → starts w (drop p s) ≡ starts (drop k w) (drop (p + k) s) →
-    get_or s (p + k) 0 ≡ get_or w k 0 → starts w (drop p s) ≡ starts (drop (k + 1) w) (drop (p + (k + 1)) s)
-starts-agree w s p k hw hs e d =
-    let n : p + (k + 1) ≡ p + k + 1 = omega arith in
-    e ∙ starts-step w s k (p + k) hw hs ∙ rw (n, eq-eqb _ _ d)
-
--- and a comparison that is through
-pub starts-done : (w l : List ℕ) (k : ℕ) → length w ≤ k → starts (drop k w) l ≡ true
-unfolding starts
-starts-done w l k h = rw (drop_of_length-le w {i = k} h)
+starts-with [] l = refl
+starts-with (x ∷ w) [] = refl
+starts-with (x ∷ w) (y ∷ l) = with-by x y (starts_with eqb l w) (starts w l) (eqb x y) refl (starts-with w l)
 
 -- ---- the sync word, as bytes and as a number
 
@@ -129,15 +117,14 @@ begun-is o [] h = absurd (omega arith)
 begun-is o (x ∷ l) h = refl
 
 pub begun-starts : (o : Order) (l : List ℕ) → begun o l ≡ true → starts l (sync_bytes o) ≡ true
-begun-starts o [] h = let z : ◌≡◌ {A = ℕ} 0 1 = cc in absurd (omega arith)
+begun-starts o [] h = absurd cc
 begun-starts o (x ∷ l) h = h
 
 pub begun-not : (o : Order) (l : List ℕ) → 4 ≤ length l → starts (sync_bytes o) l ≡ false → begun o l ≡ false
 begun-not o l h b =
     never-true (begun o l) (λ t.
     let q = starts-back (sync_bytes o) l (omega (arith, sync-length o)) (begun-starts o l t) in
-    let z : ◌≡◌ {A = ℕ} 0 1 = cc in
-    omega arith)
+    cc)
 
 module _ (o : Order) (l : List ℕ) where
   pub shows-begun : starts (sync_bytes o) l ≡ false → shows o l ≡ pick (begun o l) Unfinished NoSync
@@ -155,8 +142,45 @@ module _ (o : Order) (l : List ℕ) where
   unfolding shows
   shows-headed t n b h e q = rw (b, le-ltb (length l) 12 h, ← e, ← q)
 
+-- Fewer bytes than a header's, one at least, are unfinished where they begin with the word or it begins with them.
+few-by : (o : Order) (l : List ℕ) (a b : Bool) → starts (sync_bytes o) l ≡ a → starts l (sync_bytes o) ≡ b → 0 < length l → length l < 12 → shows o l ≡ pick (a || b) Unfinished NoSync
+few-by o l true b e f h q = shows-cut o l e q
+few-by o l false b e f h q = shows-begun o l e ∙ rw (begun-is o l h, f)
+
+-- the tests of slices at a place of the stream
+pub few-told : (o : Order) (s w : List ℕ) (p : ℕ) (a b : Bool) → w ≡ sync_bytes o → p < length s → length s < p + 12 →
+    a ≡ starts_with eqb (take (length s - p) (drop p s)) w → b ≡ starts_with eqb w (take (length s - p) (drop p s)) →
+    shows o (drop p s) ≡ pick (a || b) Unfinished NoSync
+few-told o s w p a b e h q f g =
+    let l = drop p s in
+    let n : length l ≡ length s - p = length-drop p s in
+    let r : take (length s - p) l ≡ l = rw (← n) (take-length l) in
+    few-by o l a b (sym (rw (r, e, starts-with (sync_bytes o) l) at f)) (sym (rw (r, e, starts-with l (sync_bytes o)) at g)) (omega arith) (omega arith)
+
+pub ruleset end_read = (few-told)
+
+-- a header that is read at a place of the stream tells the answer by its type, its size and what is left
+pub header-told : (o : Order) (s : List ℕ) (p t n : ℕ) → starts (sync_bytes o) (drop p s) ≡ true → p + 12 ≤ length s → t ≡ unsigned_at 4 o s (p + 4) → n ≡ unsigned_at 4 o s (p + 8) →
+    shows o (drop p s) ≡ headed t n (length s - p - 12)
+header-told o s p t n b h e q =
+    rw (← length-drop p s)
+    (shows-headed o (drop p s) t n b (omega (arith, length-drop p s)) (e ∙ word-at o s p 4 (omega arith)) (q ∙ word-at o s p 8 (omega arith)))
+
+pub ruleset header_read = (header-told, lt-leb, le-leb)
+
+-- the number of the sync word's bytes, read in little order
+pub word-none : (o : Order) (s : List ℕ) (p n : ℕ) → bytes_of Little 4 n ≡ sync_bytes o → n < 256 ^ 4 → p + 4 ≤ length s → (unsigned_at 4 Little s p ≡ n → ⊥) → shows o (drop p s) ≡ NoSync
+word-none o s p n w q h d =
+    shows-none o (drop p s) (omega (arith, length-drop p s)) (rw w at (front-not Little n (drop p s) q (λ f. d (first-word Little s p h ∙ f))))
+
+pub word-there : (o : Order) (s : List ℕ) (p n : ℕ) → bytes_of Little 4 n ≡ sync_bytes o → Bytes s → p + 4 ≤ length s → unsigned_at 4 Little s p ≡ n → starts (sync_bytes o) (drop p s) ≡ true
+word-there o s p n w g h e =
+    rw w at (front-is Little n (drop p s) (drop-bytes p s g) (omega (arith, length-drop p s)) (sym (first-word Little s p h) ∙ e))
+
 pub shows-end : (o : Order) (s : List ℕ) (p : ℕ) → length s ≤ p → shows o (drop p s) ≡ NoSync
 shows-end o s p h = rw (drop_of_length-le s {i = p} h) (shows-begun o [] (starts-short (sync_bytes o) [] (omega (arith, sync-length o))))
+
+pub ruleset word_read = (word-none, word-there, shows-end)
 
 -- Each way through the tests: what holds of each answer, where its tests came out so, holds of what is shown.
 pub record Ways (P : At → Type 0) (o : Order) (l : List ℕ) : Type 0 where
@@ -203,46 +227,32 @@ gap-pass o x l h = rw h
 pub none-passes : (o : Order) (l : List ℕ) → starts (sync_bytes o) l ≡ false → begun o l ≡ false → stops (shows o l) ≡ false
 none-passes o l b g = rw (shows-begun o l b, g)
 
-pub gap-end : (o : Order) (s : List ℕ) (p : ℕ) → length s ≤ p → gap o (drop p s) ≡ 0
-unfolding gap
-gap-end o s p h = rw (drop_of_length-le s {i = p} h)
-
 -- ---- the search: p is where it stands, having begun at from
 
-pub search-same : (o : Order) (s : List ℕ) (from p : ℕ) → p + gap o (drop p s) ≡ from + gap o (drop from s) → search_from o s p ≡ search_from o s from
-search-same o s from p e = rw e
-
-pub search-none : (o : Order) (s : List ℕ) (from p : ℕ) → length s ≤ p → p + gap o (drop p s) ≡ from + gap o (drop from s) → search_from o s from ≡ Nothing
-search-none o s from p h e = rw (le-ltb (from + gap o (drop from s)) (length s) (omega (arith, gap-end o s p h)))
-
-pub search-here : (o : Order) (s : List ℕ) (from p : ℕ) → p < length s → stops (shows o (drop p s)) ≡ true → p + gap o (drop p s) ≡ from + gap o (drop from s) → search_from o s from ≡ Place p
+pub search-here : (o : Order) (s : List ℕ) (from p : ℕ) → p < length s → stops (shows o (drop p s)) ≡ true → p + gap o (drop p s) ≡ from + gap o (drop from s) → search_from o s from ≡ Some p
 search-here o s from p h q e =
     let g : from + gap o (drop from s) ≡ p = omega (arith, gap-stop o (drop p s) q) in
     rw (g, lt-ltb p (length s) h)
 
-place-by : (a p n : ℕ) (b : Bool) → ltb a n ≡ b → pick b (Place a) Nothing ≡ Place p → (a ≡ p) × (p < n)
+place-by : (a p n : ℕ) (b : Bool) → ltb a n ≡ b → pick b (Some a) None ≡ Some p → (a ≡ p) × (p < n)
 place-by a p n true t e = let q : a ≡ p = cc in (q, omega (arith, ltb-true a n t))
-place-by a p n false t e = let z : ◌≡◌ {A = ℕ} 0 1 = cc in absurd (omega arith)
+place-by a p n false t e = absurd cc
 
 -- and what its answers say
-pub search-at : (o : Order) (s : List ℕ) (from p : ℕ) → search_from o s from ≡ Place p → (from + gap o (drop from s) ≡ p) × (p < length s)
+pub search-at : (o : Order) (s : List ℕ) (from p : ℕ) → search_from o s from ≡ Some p → (from + gap o (drop from s) ≡ p) × (p < length s)
 search-at o s from p e = let a = from + gap o (drop from s) in place-by a p (length s) (ltb a (length s)) refl e
 
-nothing-by : (a n : ℕ) (b : Bool) → ltb a n ≡ b → ◌≡◌ {A = Found} (pick b (Place a) Nothing) Nothing → n ≤ a
-nothing-by a n true t e = let z : ◌≡◌ {A = ℕ} 0 1 = cc in absurd (omega arith)
+nothing-by : (a n : ℕ) (b : Bool) → ltb a n ≡ b → ◌≡◌ {A = Option ℕ} (pick b (Some a) None) None → n ≤ a
+nothing-by a n true t e = absurd cc
 nothing-by a n false t e = ltb-false a n t
 
-pub search-end : (o : Order) (s : List ℕ) (from : ℕ) → search_from o s from ≡ Nothing → length s ≤ from + gap o (drop from s)
+pub search-end : (o : Order) (s : List ℕ) (from : ℕ) → search_from o s from ≡ None → length s ≤ from + gap o (drop from s)
 search-end o s from e = let a = from + gap o (drop from s) in nothing-by a (length s) (ltb a (length s)) refl e
 
--- an arm of a `match` on what stands at a place: it stops a search, or the search goes on
+-- an arm of a `match` on what stands at a place that stops a search
 pub stop-told : (a : At) → ((code : ℕ) × (size : ℕ) × (a ≡ Complete code size)) ⊎ (a ≡ Unfinished) → stops a ≡ true
 stop-told a (inl w) = ap stops w.2
 stop-told a (inr e) = ap stops e
-
-pub pass-told : (a : At) → (a ≡ NoSync) ⊎ ((size : BadSize) × (a ≡ Bad size)) → stops a ≡ false
-pass-told a (inl e) = ap stops e
-pass-told a (inr w) = ap stops w.1
 
 -- ---- the order, one place at a time
 
@@ -260,9 +270,38 @@ order-big s p h b = order-at s p h ∙ rw b
 pub order-little : (s : List ℕ) (p : ℕ) → p < length s → starts (sync_bytes Big) (drop p s) ≡ false → starts (sync_bytes Little) (drop p s) ≡ true → order_of (drop p s) ≡ gives Little
 order-little s p h b l = order-at s p h ∙ rw (b, l)
 
+-- by the number that is read there in big order, which is 0 where fewer than four bytes are left
+module _ (s : List ℕ) (p : ℕ) (h : p < length s) where
+  other-by : (n : ℕ) (b : Bool) → leb (p + 4) (length s) ≡ b → n < 256 ^ 4 → (unsigned_at 4 Big s p ≡ n → ⊥) → starts (bytes_of Big 4 n) (drop p s) ≡ false
+  other-by n true e q d = front-not Big n (drop p s) q (λ f. d (first-word Big s p (leb-true (p + 4) (length s) e) ∙ f))
+  other-by n false e q d =
+      starts-short (bytes_of Big 4 n) (drop p s) (omega (arith, leb-false (p + 4) (length s) e, length-drop p s, bytes-length Big 4 n))
+
+  same-by : (n : ℕ) (b : Bool) → leb (p + 4) (length s) ≡ b → Bytes s → 0 < n → unsigned_at 4 Big s p ≡ n → starts (bytes_of Big 4 n) (drop p s) ≡ true
+  same-by n true e g q f =
+      let l = leb-true (p + 4) (length s) e in
+      front-is Big n (drop p s) (drop-bytes p s g) (omega (arith, length-drop p s)) (sym (first-word Big s p l) ∙ f)
+  same-by n false e g q f = absurd (omega (arith, f, at-none 4 Big s p (leb-false (p + 4) (length s) e)))
+
+  pub read-other : (unsigned_at 4 Big s p ≡ 0xA1B2C3D4 → ⊥) → (unsigned_at 4 Big s p ≡ 0xD4C3B2A1 → ⊥) → order_of (drop p s) ≡ order_of (drop (p + 1) s)
+  read-other b l = order-step s p h (other-by 0xA1B2C3D4 _ refl (omega arith) b) (other-by 0xD4C3B2A1 _ refl (omega arith) l)
+
+  pub read-big : Bytes s → unsigned_at 4 Big s p ≡ 0xA1B2C3D4 → order_of (drop p s) ≡ gives Big
+  read-big g e = order-big s p h (same-by 0xA1B2C3D4 _ refl g (omega arith) e)
+
+  pub read-little : Bytes s → unsigned_at 4 Big s p ≡ 0xD4C3B2A1 → order_of (drop p s) ≡ gives Little
+  read-little g e =
+      order-little s p h (other-by 0xA1B2C3D4 _ refl (omega arith) (λ f. omega (arith, f, e))) (same-by 0xD4C3B2A1 _ refl g (omega arith) e)
+
 pub order-short : (l : List ℕ) → length l < 4 → order_of l ≡ refuses 1
 unfolding order_of
 order-short [] h = refl
 order-short (x ∷ l) h =
     rw (starts-short (sync_bytes Big) (x ∷ l) (omega (arith, sync-length Big)), starts-short (sync_bytes Little) (x ∷ l) (omega (arith, sync-length Little)))
     (order-short l (omega arith))
+
+-- the last places, where no word can stand
+pub order-end : (s : List ℕ) (p : ℕ) → length s ≤ p → order_of (drop p s) ≡ refuses 1
+order-end s p h = order-short (drop p s) (omega (arith, length-drop p s))
+
+pub ruleset order_read = (read-other, read-big, read-little, order-end)

@@ -1,5 +1,5 @@
 pub mod Laws
-pub mod Free
+pub mod Passes
 pub mod Looks
 pub mod Frames
 pub mod Theorems

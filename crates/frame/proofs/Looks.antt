@@ -5,7 +5,7 @@ use mathlib.Core.Bool.{false}
 use mathlib.Core.List.{List, [], ◌∷◌}
 use native.Mathlib.Omega.{arith}
 use denote.Enum.Declared.{tag_of}
-use lib.ListN.{length}
+use lib.ListN.{length, drop, length-drop}
 use types.Run.{OneOf, miss}
 use Rattle.num.specs.declared.Order.{Order}
 use Rattle.frame.specs.Place.{shows, stops}
@@ -23,50 +23,50 @@ use Rattle.frame.specs.contracts.Ahead.{the_type}
 -- ---- by what stands at the place
 
 by-chunk : (a : At) (code size : ℕ) → ahead_by a ≡ Chunk code size → a ≡ Complete code size
-by-chunk NoSync code size e = let z : ◌≡◌ {A = ℕ} 0 1 = cc in absurd (omega arith)
-by-chunk (Bad b) code size e = let z : ◌≡◌ {A = ℕ} 0 1 = cc in absurd (omega arith)
-by-chunk Unfinished code size e = let z : ◌≡◌ {A = ℕ} 0 1 = cc in absurd (omega arith)
+by-chunk NoSync code size e = absurd cc
+by-chunk (Bad b) code size e = absurd cc
+by-chunk Unfinished code size e = absurd cc
 by-chunk (Complete k n) code size e =
     let i : k ≡ code = cc in
     let j : n ≡ size = cc in
     rw (i, j)
 
 by-cut : (a : At) → ahead_by a ≡ Cut → a ≡ Unfinished
-by-cut NoSync e = let z : ◌≡◌ {A = ℕ} 0 1 = cc in absurd (omega arith)
-by-cut (Bad b) e = let z : ◌≡◌ {A = ℕ} 0 1 = cc in absurd (omega arith)
+by-cut NoSync e = absurd cc
+by-cut (Bad b) e = absurd cc
 by-cut Unfinished e = refl
-by-cut (Complete k n) e = let z : ◌≡◌ {A = ℕ} 0 1 = cc in absurd (omega arith)
+by-cut (Complete k n) e = absurd cc
 
 by-stretch : (a : At) (stray : Stray) → ahead_by a ≡ Stretch stray → stops a ≡ false
 by-stretch NoSync stray e = refl
 by-stretch (Bad b) stray e = refl
-by-stretch Unfinished stray e = let z : ◌≡◌ {A = ℕ} 0 1 = cc in absurd (omega arith)
-by-stretch (Complete k n) stray e = let z : ◌≡◌ {A = ℕ} 0 1 = cc in absurd (omega arith)
+by-stretch Unfinished stray e = absurd cc
+by-stretch (Complete k n) stray e = absurd cc
 
 not-end : (a : At) → ahead_by a ≡ End → ⊥
-not-end NoSync e = let z : ◌≡◌ {A = ℕ} 0 1 = cc in absurd (omega arith)
-not-end (Bad b) e = let z : ◌≡◌ {A = ℕ} 0 1 = cc in absurd (omega arith)
-not-end Unfinished e = let z : ◌≡◌ {A = ℕ} 0 1 = cc in absurd (omega arith)
-not-end (Complete k n) e = let z : ◌≡◌ {A = ℕ} 0 1 = cc in absurd (omega arith)
+not-end NoSync e = absurd cc
+not-end (Bad b) e = absurd cc
+not-end Unfinished e = absurd cc
+not-end (Complete k n) e = absurd cc
 
 passed-by : (a : At) → stops a ≡ false → (stray : Stray) × (ahead_by a ≡ Stretch stray)
 passed-by NoSync e = (_, refl)
 passed-by (Bad b) e = (_, refl)
-passed-by Unfinished e = let z : ◌≡◌ {A = ℕ} 0 1 = cc in absurd (omega arith)
-passed-by (Complete k n) e = let z : ◌≡◌ {A = ℕ} 0 1 = cc in absurd (omega arith)
+passed-by Unfinished e = absurd cc
+passed-by (Complete k n) e = absurd cc
 
 -- ---- what each case says
 
 pub is-chunk : (o : Order) (l : List ℕ) (code size : ℕ) → ahead_of o l ≡ Chunk code size → shows o l ≡ Complete code size
-is-chunk o [] code size e = let z : ◌≡◌ {A = ℕ} 0 1 = cc in absurd (omega arith)
+is-chunk o [] code size e = absurd cc
 is-chunk o (x ∷ l) code size e = by-chunk (shows o (x ∷ l)) code size e
 
 pub is-cut : (o : Order) (l : List ℕ) → ahead_of o l ≡ Cut → shows o l ≡ Unfinished
-is-cut o [] e = let z : ◌≡◌ {A = ℕ} 0 1 = cc in absurd (omega arith)
+is-cut o [] e = absurd cc
 is-cut o (x ∷ l) e = by-cut (shows o (x ∷ l)) e
 
 pub is-stretch : (o : Order) (l : List ℕ) (stray : Stray) → ahead_of o l ≡ Stretch stray → stops (shows o l) ≡ false
-is-stretch o [] stray e = let z : ◌≡◌ {A = ℕ} 0 1 = cc in absurd (omega arith)
+is-stretch o [] stray e = absurd cc
 is-stretch o (x ∷ l) stray e = by-stretch (shows o (x ∷ l)) stray e
 
 pub is-end : (o : Order) (l : List ℕ) → ahead_of o l ≡ End → length l ≡ 0
@@ -78,6 +78,11 @@ is-end o (x ∷ l) e = absurd (not-end (shows o (x ∷ l)) e)
 pub ahead-at : (o : Order) (l : List ℕ) → 0 < length l → ahead_of o l ≡ ahead_by (shows o l)
 ahead-at o [] h = absurd (omega arith)
 ahead-at o (x ∷ l) h = refl
+
+pub ahead-looked : (o : Order) (s : List ℕ) (p : ℕ) → p < length s → ahead_of o (drop p s) ≡ ahead_by (shows o (drop p s))
+ahead-looked o s p h = ahead-at o (drop p s) (omega (arith, length-drop p s))
+
+pub ruleset place_read = (ahead-looked)
 
 pub ahead-none : (o : Order) (l : List ℕ) → length l ≡ 0 → ahead_of o l ≡ End
 ahead-none o [] h = refl
@@ -106,7 +111,7 @@ pub other-ahead : {A : Type 0} (other : A) (g : ℕ → ℕ → A) (a : Ahead) �
 other-ahead other g End e = refl
 other-ahead other g (Stretch stray) e = refl
 other-ahead other g Cut e = refl
-other-ahead other g (Chunk code size) e = let z : ◌≡◌ {A = ℕ} 0 1 = cc in absurd (omega arith)
+other-ahead other g (Chunk code size) e = absurd cc
 
 -- what holds of what is made of every chunk, and of what is made of every other frame, holds of what is made of a frame
 pub of-chunk : {A : Type 0} (P : A → Type 0) (other : A) (g : ℕ → List ℕ → A) (f : Frame) → P other → ((code : ℕ) (body : List ℕ) → P (g code body)) → P (of_chunk other g f)
@@ -122,6 +127,6 @@ frame-by P k h (unfinished bytes) = h (unfinished bytes) refl
 
 -- what is made of a frame that is no chunk
 pub other-made {ℓ} : {A : Type ℓ} (other : A) (g : ℕ → List ℕ → A) (f : Frame) → Frames.is_chunk f ≡ false → of_chunk other g f ≡ other
-other-made other g (chunk code body) e = let z : ◌≡◌ {A = ℕ} 0 1 = cc in absurd (omega arith)
+other-made other g (chunk code body) e = absurd cc
 other-made other g (skipped stray bytes) e = refl
 other-made other g (unfinished bytes) e = refl

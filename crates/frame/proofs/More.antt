@@ -29,7 +29,7 @@ use Rattle.frame.proofs.Frames.{complete}
 pub starts-more : (w l t : List ℕ) → starts w l ≡ true → starts w (l ++ t) ≡ true
 unfolding starts
 starts-more [] l t h = refl
-starts-more (x ∷ w) [] t h = let z : ◌≡◌ {A = ℕ} 0 1 = cc in absurd (omega arith)
+starts-more (x ∷ w) [] t h = absurd cc
 starts-more (x ∷ w) (y ∷ l) t h =
     let b = both-true (eqb y x) (starts w l) h in
     rw b.0 (starts-more w l t b.1)
@@ -46,13 +46,13 @@ apart-cons x y w l t true e h r =
     let m = r (record { here = rw e at h.here; back = rw q at h.back }) in
     record { here = rw e m.here; back = rw q m.back }
 apart-cons x y w l t false e h r =
-    let q : eqb x y ≡ false = ne_eqb x y (λ i. let j = eq-eqb y x (sym i) in let z : ◌≡◌ {A = ℕ} 0 1 = cc in omega arith) in
+    let q : eqb x y ≡ false = ne_eqb x y (λ i. let j = eq-eqb y x (sym i) in cc) in
     record { here = rw e; back = rw q }
 
 apart-more : (w l t : List ℕ) → Apart w l → Apart w (l ++ t)
 unfolding starts
-apart-more [] l t h = let n = h.here in let z : ◌≡◌ {A = ℕ} 0 1 = cc in absurd (omega arith)
-apart-more (x ∷ w) [] t h = let n = h.back in let z : ◌≡◌ {A = ℕ} 0 1 = cc in absurd (omega arith)
+apart-more [] l t h = let n = h.here in absurd cc
+apart-more (x ∷ w) [] t h = let n = h.back in absurd cc
 apart-more (x ∷ w) (y ∷ l) t h = apart-cons x y w l t (eqb y x) refl h (apart-more w l t)
 
 word-more : (o : Order) (l t : List ℕ) (k : ℕ) → k + 4 ≤ length l → word o (drop k (l ++ t)) ≡ word o (drop k l)
@@ -86,11 +86,11 @@ module _ (o : Order) (l t : List ℕ) (some : 0 < length l) where
 
   -- a place that a search passes over, it passes over
   pub passes-more : stops (shows o l) ≡ false → shows o (l ++ t) ≡ shows o l
-  passes-more h = shows-more (λ e. let n = rw e at h in let z : ◌≡◌ {A = ℕ} 0 1 = cc in omega arith)
+  passes-more h = shows-more (λ e. let n = rw e at h in cc)
 
   -- a complete chunk is the same
   pub complete-more : (code size : ℕ) → shows o l ≡ Complete code size → shows o (l ++ t) ≡ Complete code size
-  complete-more code size e = shows-more (λ u. let z : ◌≡◌ {A = ℕ} 0 1 = cc in omega arith) ∙ e
+  complete-more code size e = shows-more (λ u. cc) ∙ e
 
   -- and so is a stretch, with what stands where it begins
   pub stretch-more : (stray : Stray) → ahead_of o l ≡ Stretch stray → ahead_of o (l ++ t) ≡ Stretch stray
@@ -153,7 +153,7 @@ order-on : (x : ℕ) (l t : List ℕ) (o : Order) (b : Bool) → ltb (length (x 
 unfolding order_of
 order-on x l t o true h e r =
     let w = sym (order-short (x ∷ l) (ltb-true (length (x ∷ l)) 4 h)) ∙ e in
-    let z : ◌≡◌ {A = ℕ} 0 1 = cc in absurd (omega arith)
+    absurd cc
 order-on x l t o false h e r =
     let n = ltb-false (length (x ∷ l)) 4 h in
     let b = starts-same (sync_bytes Big) (x ∷ l) t (omega (arith, sync-length Big)) in
@@ -163,5 +163,5 @@ order-on x l t o false h e r =
 -- an order that was found is found
 pub order-more : (s t : List ℕ) (o : Order) → order_of s ≡ gives o → order_of (s ++ t) ≡ gives o
 unfolding order_of
-order-more [] t o e = let z : ◌≡◌ {A = ℕ} 0 1 = cc in absurd (omega arith)
+order-more [] t o e = absurd cc
 order-more (x ∷ l) t o e = order-on x l t o (ltb (length (x ∷ l)) 4) refl e (order-more l t o)

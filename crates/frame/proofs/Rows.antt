@@ -46,7 +46,7 @@ module _ (o : Order) where
         none = λ k i. omega (arith, b (k - 1) (omega arith));
         one = λ k i. omega (arith, q.none k (omega arith));
         more = λ k i. omega (arith, b k (omega arith));
-        stopped = λ s k i. let z : ◌≡◌ {A = ℕ} 0 1 = cc in absurd (omega arith);
+        stopped = λ s k i. absurd cc;
       }
 
   rows-cons : (x : ℕ) (l : List ℕ) (n : ℕ) (a : At) → shows o (x ∷ l) ≡ a → Rows (drop (width (first o (x ∷ l))) (x ∷ l)) n → Rows (x ∷ l) (suc n)

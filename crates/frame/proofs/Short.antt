@@ -18,7 +18,7 @@ use Rattle.frame.specs.Place.{sync_bytes, starts, begun, shows}
 use Rattle.frame.proofs.Laws.{starts-short, starts-split, starts-self, sync-length, begun-is, shows-begun, shows-cut}
 
 begun-only : (o : Order) (l : List ℕ) → begun o l ≡ true → (0 < length l) × (l ≡ take (length l) (sync_bytes o))
-begun-only o [] h = let z : ◌≡◌ {A = ℕ} 0 1 = cc in absurd (omega arith)
+begun-only o [] h = absurd cc
 begun-only o (x ∷ l) h =
     let n = length (x ∷ l) in
     (omega arith, sym (ap (take n) (starts-split (x ∷ l) (sync_bytes o) h) ∙ take-append_seam (x ∷ l) (drop n (sync_bytes o))))
@@ -35,7 +35,7 @@ begun-exactly o l = (
 
 cut-by : (b : Bool) → ◌≡◌ {A = At} (pick b Unfinished NoSync) Unfinished → b ≡ true
 cut-by true e = refl
-cut-by false e = let z : ◌≡◌ {A = ℕ} 0 1 = cc in absurd (omega arith)
+cut-by false e = absurd cc
 
 -- fewer bytes than the sync word's are an unfinished end
 pub short-end-exactly : (o : Order) (l : List ℕ) → length l < 4 → (shows o l ≡ Unfinished) ↔ ((0 < length l) × (l ≡ take (length l) (sync_bytes o)))

@@ -8,6 +8,7 @@ use mathlib.Core.Logic.{⊎_elim}
 use native.Mathlib.Omega.{arith}
 use lib.ListN.{length, drop, take, length-append, length-drop, take-append-drop}
 use lib.Seq.{drop-drop, drop-length, drop-append-le, drop-append_seam, length-take-le}
+use Rattle.std.specs.Prelude.{Some, None, Result, Ok, Err}
 use Rattle.num.specs.Answer.{gives, refuses}
 use Rattle.num.specs.Choice.{pick}
 use Rattle.num.specs.declared.Order.{Order}
@@ -15,9 +16,7 @@ use Rattle.num.specs.declared.Order.TheVariants.{Big, Little}
 use Rattle.num.proofs.Laws.{Bytes}
 use Rattle.frame.specs.declared.At.{At}
 use Rattle.frame.specs.declared.At.TheVariants.{NoSync, Bad, Unfinished, Complete}
-use Rattle.frame.specs.declared.Found.TheVariants.{Place, Nothing}
-use Rattle.frame.specs.declared.OrderFound.{OrderFound}
-use Rattle.frame.specs.declared.OrderFound.TheVariants.{Is, Neither}
+use Rattle.frame.specs.declared.NoSyncWord.{NoSyncWord}
 use Rattle.frame.specs.Place.{sync_bytes, starts, shows, stops, gap, search_from, order_of, order_said}
 use Rattle.frame.specs.Frames.{Frame, frame_bytes, width, frame_at, first, frames_by, frames, covered}
 use Rattle.frame.proofs.Laws.{drop-bytes, shows-none, gap-stop, gap-pass, search-here, search-at, search-end}
@@ -134,7 +133,7 @@ pub record Stopped (o : Order) (s : List ℕ) (from p : ℕ) : Type 0 where
   pub here : stops (shows o (drop p s)) ≡ true
   pub before : (q : ℕ) → from ≤ q → q < p → stops (shows o (drop q s)) ≡ false
 
-pub search-stopped : (o : Order) (s : List ℕ) (from p : ℕ) → search_from o s from ≡ Place p → Stopped o s from p
+pub search-stopped : (o : Order) (s : List ℕ) (from p : ℕ) → search_from o s from ≡ Some p → Stopped o s from p
 search-stopped o s from p e =
     let h = search-at o s from p e in
     let n : length (drop from s) ≡ length s - from = length-drop from s in
@@ -149,7 +148,7 @@ search-stopped o s from p e =
     }
 
 -- and where it found none, there is none
-pub search-nothing : (o : Order) (s : List ℕ) (from q : ℕ) → search_from o s from ≡ Nothing → from ≤ q → q < length s → stops (shows o (drop q s)) ≡ false
+pub search-nothing : (o : Order) (s : List ℕ) (from q : ℕ) → search_from o s from ≡ None → from ≤ q → q < length s → stops (shows o (drop q s)) ≡ false
 search-nothing o s from q e l u =
     let h = search-end o s from e in
     let k : q ≡ from + (q - from) = omega arith in
@@ -168,7 +167,7 @@ gap-clean o (x ∷ xs) ys f h =
     gap-pass o x (xs ++ ys) n ∙ omega (arith, gap-clean o xs ys f (λ k q. h (suc k) (omega arith)))
 
 -- From any place of a clean beginning, the search stops at the complete chunk that the ending starts with.
-pub clean-beginning : (o : Order) (xs ys : List ℕ) (t n k : ℕ) → Clean o xs ys → shows o ys ≡ Complete t n → k ≤ length xs → search_from o (xs ++ ys) k ≡ Place (length xs)
+pub clean-beginning : (o : Order) (xs ys : List ℕ) (t n k : ℕ) → Clean o xs ys → shows o ys ≡ Complete t n → k ≤ length xs → search_from o (xs ++ ys) k ≡ Some (length xs)
 clean-beginning o xs ys t n k h e q =
     let d : drop (length xs) (xs ++ ys) ≡ ys = drop-append_seam xs ys in
     let st : stops (shows o ys) ≡ true = rw e in
@@ -203,14 +202,14 @@ lowest-by x l o false false eb es e r =
 -- where an order is found, its word stands at a place below which neither word starts
 pub order-lowest : (s : List ℕ) (o : Order) → order_of s ≡ gives o → (p : ℕ) × (starts (sync_bytes o) (drop p s) ≡ true) × NoneBelow s p
 unfolding order_of
-order-lowest [] o e = let z : ◌≡◌ {A = ℕ} 0 1 = cc in absurd (omega arith)
+order-lowest [] o e = absurd cc
 order-lowest (x ∷ l) o e = lowest-by x l o (starts (sync_bytes Big) (x ∷ l)) (starts (sync_bytes Little) (x ∷ l)) refl refl e (order-lowest l o)
 
 refused-by : (x : ℕ) (l : List ℕ) (n : ℕ) (b s : Bool) → starts (sync_bytes Big) (x ∷ l) ≡ b → starts (sync_bytes Little) (x ∷ l) ≡ s →
     pick b (gives Big) (pick s (gives Little) (order_of l)) ≡ refuses n →
     (order_of l ≡ refuses n → (n ≡ 1) × NoneBelow l (length l)) → (n ≡ 1) × NoneBelow (x ∷ l) (length (x ∷ l))
-refused-by x l n true s eb es e r = let z : ◌≡◌ {A = ℕ} 0 1 = cc in absurd (omega arith)
-refused-by x l n false true eb es e r = let z : ◌≡◌ {A = ℕ} 0 1 = cc in absurd (omega arith)
+refused-by x l n true s eb es e r = absurd cc
+refused-by x l n false true eb es e r = absurd cc
 refused-by x l n false false eb es e r = let w = r e in (w.0, below-cons x l (length l) eb es w.1)
 
 -- a refusal is number 1, and then neither word starts anywhere
@@ -220,8 +219,8 @@ order-refused [] n e = (cc, λ q o h. absurd (omega arith))
 order-refused (x ∷ l) n e = refused-by x l n (starts (sync_bytes Big) (x ∷ l)) (starts (sync_bytes Little) (x ∷ l)) refl refl e (order-refused l n)
 
 -- the answer's cases say different things, so the promise fixes the case
-pub order-told : (a b : OrderFound) → order_said a ≡ order_said b → a ≡ b
-order-told (Is o) (Is q) e = let h : o ≡ q = cc in ap Is h
-order-told (Is o) Neither e = let z : ◌≡◌ {A = ℕ} 0 1 = cc in absurd (omega arith)
-order-told Neither (Is o) e = let z : ◌≡◌ {A = ℕ} 0 1 = cc in absurd (omega arith)
-order-told Neither Neither e = refl
+pub order-told : (a b : Result Order NoSyncWord) → order_said a ≡ order_said b → a ≡ b
+order-told (Ok o) (Ok q) e = let h : o ≡ q = cc in rw h
+order-told (Ok o) (Err n) e = absurd cc
+order-told (Err n) (Ok o) e = absurd cc
+order-told (Err n) (Err m) e = refl

@@ -1,2 +1,2 @@
 -- What only the promises of private functions use.
-pub mod Free
+pub mod Passes

@@ -1,7 +1,7 @@
 -- What a stream shows at a place, where a search stops, and which order a stream has.
 -- All is said of the bytes ahead of the place, so what lies behind it has no say.
-use Rattle.std.specs.Prelude.{ℕ, ◌+◌, ◌-◌, ◌%◌, List, [], ◌∷◌, Bool, true, false, length, drop, take, ltb, leb, eqb}
-use Rattle.num.specs.Answer.{Answer, gives, refuses}
+use Rattle.std.specs.Prelude.{ℕ, ◌+◌, ◌-◌, ◌%◌, List, [], ◌∷◌, Bool, true, false, length, drop, take, ltb, leb, eqb, Option, Some, None, Result}
+use Rattle.num.specs.Answer.{Answer, gives, refuses, answered}
 use Rattle.num.specs.Choice.{pick, both}
 use Rattle.num.specs.Number.{unsigned, bytes_of}
 use Rattle.num.specs.declared.Order.{Order}
@@ -10,10 +10,7 @@ use Rattle.frame.specs.declared.BadSize.{BadSize}
 use Rattle.frame.specs.declared.BadSize.TheVariants.{Large, Uneven}
 use Rattle.frame.specs.declared.At.{At}
 use Rattle.frame.specs.declared.At.TheVariants.{NoSync, Bad, Unfinished, Complete}
-use Rattle.frame.specs.declared.Found.{Found}
-use Rattle.frame.specs.declared.Found.TheVariants.{Place, Nothing}
-use Rattle.frame.specs.declared.OrderFound.{OrderFound}
-use Rattle.frame.specs.declared.OrderFound.TheVariants.{Is, Neither}
+use Rattle.frame.specs.declared.NoSyncWord.{NoSyncWord}
 
 -- the bytes of a header: sync word, type and size
 abbrev pub header_size : ℕ
@@ -85,10 +82,10 @@ gap o [] = 0
 gap o (x ∷ l) = pick (stops (shows o (x ∷ l))) 0 (1 + gap o l)
 
 -- the first place from `from` on at which a search stops, or that there is none
-abbrev pub search_from : Order → List ℕ → ℕ → Found
+abbrev pub search_from : Order → List ℕ → ℕ → Option ℕ
 search_from o s from =
     let to : ℕ = from + gap o (drop from s) in
-    pick (ltb to (length s)) (Place to) Nothing
+    pick (ltb to (length s)) (Some to) None
 
 -- the lowest place where either sync word stands decides the order; number 1 where there is none
 unfoldable pub order_of : List ℕ → Answer Order
@@ -98,7 +95,10 @@ order_of (x ∷ l) =
     (pick (starts (sync_bytes Little) (x ∷ l)) (gives Little)
     (order_of l))
 
+-- the number of the refusal where there is none
+abbrev pub no_word_number : NoSyncWord → ℕ
+no_word_number e = 1
+
 -- what each case of the answer says
-abbrev pub order_said : OrderFound → Answer Order
-order_said (Is o) = gives o
-order_said Neither = refuses 1
+abbrev pub order_said : Result Order NoSyncWord → Answer Order
+order_said r = answered no_word_number r

@@ -1,16 +1,14 @@
 // Frames: the sync word, what a stream shows at a place, the search, and finding the byte order.
 #![tactic(auto)]
 
-ghost use Rattle.std.specs.Prelude.{◌≡◌, true, ◌+◌, ◌^◌, ◌≤◌, ◌<◌, eqb, length, drop};
-ghost use Rattle.num.specs.Answer.{refusal};
-ghost use Rattle.num.specs.Choice.{pick};
+ghost use Rattle.std.specs.Prelude.{◌≡◌, true, ◌+◌, ◌≤◌, ◌<◌, length, drop};
 ghost use Rattle.num.specs.Number.{bytes_of};
 ghost use Rattle.num.specs.declared.Order.TheVariants.{Little};
 ghost use Rattle.frame.specs.Ahead.{ahead_of};
-ghost use Rattle.frame.specs.Inner.Free.{Free};
-ghost use Rattle.frame.specs.Place.{sync_bytes, starts, good_size, bad_size, shows, search_from, order_of, order_said};
+ghost use Rattle.frame.specs.Inner.Passes.{Passes};
+ghost use Rattle.frame.specs.Place.{sync_bytes, starts, good_size, bad_size, shows, search_from, order_of, no_word_number, order_said};
 
-use num::Order;
+use num::{Number, Numbered, Order};
 
 // The sync word, with which each chunk begins.
 pub const SYNC: u32 = 0xA1B2C3D4;
@@ -28,7 +26,7 @@ pub const FRONT: usize = 20;
 pub const LIMIT: usize = 69632;
 
 // What is wrong with a size that is not good.
-#[derive(Clone, Copy)]
+#[derive(Clone, Copy, PartialEq, Eq)]
 pub enum BadSize {
     // It is over the limit, a multiple of 4 or not.
     Large,
@@ -37,7 +35,7 @@ pub enum BadSize {
 }
 
 // What stands at a place of a stream. The code is the chunk's type as a number, the size that of its body.
-#[derive(Clone, Copy)]
+#[derive(Clone, Copy, PartialEq, Eq)]
 pub enum At {
     // No sync word.
     NoSync,
@@ -51,7 +49,7 @@ pub enum At {
 }
 
 // What stands at a place where no chunk begins.
-#[derive(Clone, Copy)]
+#[derive(Clone, Copy, PartialEq, Eq)]
 pub enum Stray {
     // No sync word.
     NoSync,
@@ -60,7 +58,7 @@ pub enum Stray {
 }
 
 // What is ahead of a place.
-#[derive(Clone, Copy)]
+#[derive(Clone, Copy, PartialEq, Eq)]
 pub enum Ahead {
     // No byte.
     End,
@@ -72,30 +70,15 @@ pub enum Ahead {
     Chunk { code: u32, size: usize },
 }
 
-// Where a search stopped, or that it found nothing.
-#[derive(Clone, Copy)]
-pub enum Found {
-    Place(usize),
-    Nothing,
-}
+// That a stream has no sync word, so that nothing says its byte order.
+#[derive(Clone, Copy, PartialEq, Eq)]
+pub struct NoSyncWord;
 
-// The byte order of a stream, or that it has no sync word.
-#[derive(Clone, Copy)]
-pub enum OrderFound {
-    Is(Order),
-    // Number 1.
-    Neither,
-}
+impl Numbered for NoSyncWord {
+    ghost number_of = { no_word_number };
 
-impl OrderFound {
-    // The number of the refusal: 1 where neither sync word stands, 0 where an order was found.
-    pub fn number(self) -> u32
-        ensures { result ≡ refusal (order_said self) }
-    {
-        match self {
-            OrderFound::Is(_) => 0,
-            OrderFound::Neither => 1,
-        }
+    fn number(self) -> u32 {
+        1
     }
 }
 
@@ -117,45 +100,44 @@ fn bad_size(size: usize) -> BadSize
     }
 }
 
-// What the stream shows at a place where the sync word stands.
+// What the stream shows at a place where the sync word and a whole header stand.
+// Order, stream and place go one by one, as in the public calls (docs/CALLS.md): each of these would make a struct.
+#[tactic(auto, using(crate::proofs::Laws::header_read))]
 fn headed(order: Order, s: &[u8], place: usize) -> At
-    requires { (place + 4 ≤ length s.now) × (starts (sync_bytes order) (drop place s.now) ≡ true) }
+    requires { (place + 12 ≤ length s.now) × (starts (sync_bytes order) (drop place s.now) ≡ true) }
     ensures { result ≡ shows order (drop place s.now) }
 {
-    let left = s.len() - place;
-    if left < HEADER {
-        return At::Unfinished;
-    }
-    let code = num::u32_at(order, s, place + 4);
-    let size = num::u32_at(order, s, place + 8) as usize;
+    let code = u32::at(order, s, place + 4);
+    let size = u32::at(order, s, place + 8) as usize;
     if !good_size(size) {
         return At::Bad(bad_size(size));
     }
-    if left - HEADER < size {
+    if s.len() - place - HEADER < size {
         return At::Unfinished;
     }
     At::Complete { code, size }
 }
 
 // What the stream shows at a place where fewer bytes are left than a header has: an unfinished end where these bytes
-// begin with the sync word, or the sync word begins with them; else no sync.
+// begin with the sync word, or the sync word begins with them; else no sync. Only the last bytes of a stream come to
+// it: with its comparisons `look` would be too long to be inlined where it is called for each chunk.
+#[inline(never)]
+#[tactic(auto, using(crate::proofs::Laws::end_read))]
 fn near_end(order: Order, s: &[u8], place: usize) -> At
     requires { (place < length s.now) × (length s.now < place + 12) }
     ensures { result ≡ shows order (drop place s.now) }
 {
-    let sync = num::u32_bytes(order, SYNC);
-    let left = s.len() - place;
-    let mut k = 0;
-    while (k < left) & (k < 4) {
-        if s[place + k] != sync[k] {
-            return At::NoSync;
-        }
-        k += 1;
+    let sync = SYNC.bytes(order);
+    let rest = &s[place..];
+    if rest.starts_with(&sync) | sync.starts_with(rest) {
+        At::Unfinished
+    } else {
+        At::NoSync
     }
-    At::Unfinished
 }
 
 // The four bytes of an order's sync word, read as a number in little order, which our processors do without a swap.
+// Two constants: `u32::of(Order::Little, SYNC.bytes(order))` would be no plainer, and turn the word twice.
 fn sync_in_little(order: Order) -> u32
     ensures { bytes_of Little 4 result ≡ sync_bytes order }
 {
@@ -166,6 +148,7 @@ fn sync_in_little(order: Order) -> u32
 }
 
 // What stands at a place of the stream. At the end and past it the answer is NoSync.
+#[tactic(auto, using(crate::proofs::Laws::word_read))]
 pub fn look(order: Order, s: &[u8], place: usize) -> At
     ensures { result ≡ shows order (drop place s.now) }
 {
@@ -175,7 +158,7 @@ pub fn look(order: Order, s: &[u8], place: usize) -> At
     if s.len() - place < HEADER {
         return near_end(order, s, place);
     }
-    if num::u32_at(Order::Little, s, place) != sync_in_little(order) {
+    if u32::at(Order::Little, s, place) != sync_in_little(order) {
         return At::NoSync;
     }
     headed(order, s, place)
@@ -183,6 +166,7 @@ pub fn look(order: Order, s: &[u8], place: usize) -> At
 
 // What is ahead of a place: the end, bytes that are no chunk, a chunk that breaks off, or a whole chunk. At the end and
 // past it the answer is End. Reading, counting, copying and the check of a file ask this at each place.
+#[tactic(auto, using(crate::proofs::Looks::place_read))]
 pub fn ahead_of(order: Order, s: &[u8], place: usize) -> Ahead
     ensures { result ≡ ahead_of order (drop place s.now) }
 {
@@ -197,177 +181,101 @@ pub fn ahead_of(order: Order, s: &[u8], place: usize) -> Ahead
     }
 }
 
-// Whether no place of the n from p on has the bytes a and b in front. The loop has no early way out, so that many bytes
-// are compared at a time.
-fn free_run(s: &[u8], p: usize, n: usize, a: u8, b: u8) -> bool
-    requires { p + n < length s.now }
-    ensures { result ≡ true → Free s.now a b p (p + n) }
-{
-    let mut hit = false;
-    let mut k = 0;
-    while k < n {
-        let i = p + k;
-        hit = hit | ((s[i] == a) & (s[i + 1] == b));
-        k += 1;
-    }
-    !hit
+// A stream, and the two bytes that a search looks for in front of a place.
+#[derive(Clone, Copy)]
+struct Front<'a> {
+    s: &'a [u8],
+    first: u8,
+    second: u8,
 }
 
-// The place from `from` on, at most `to`, up to which no place of whole groups of eight has the bytes a and b in front.
-fn eights(s: &[u8], from: usize, to: usize, a: u8, b: u8) -> usize
-    requires { (from ≤ to) × (to < length s.now) }
-    ensures { (from ≤ result) × (result ≤ to) × Free s.now a b from result }
-{
-    let mut p = from;
-    while 8 <= to - p {
-        if !free_run(s, p, 8, a, b) {
-            return p;
+impl<'a> Front<'a> {
+    // Whether none of the N places from p on has the two bytes in front. The loop has no early way out, so that the
+    // compiler compares many bytes at a time.
+    fn none_of<const N: usize>(&self, p: usize) -> bool
+        requires { p + N < length self.now.s.now }
+        ensures { result ≡ true → Passes self.now p (p + N) }
+    {
+        let mut hit = false;
+        for k in 0..N {
+            let i = p + k;
+            hit |= (self.s[i] == self.first) & (self.s[i + 1] == self.second);
         }
-        p += 8;
+        !hit
     }
-    p
-}
 
-// The first place from `from` on and below `to` that has the bytes a and b in front, or `to`.
-fn near(s: &[u8], from: usize, to: usize, a: u8, b: u8) -> usize
-    requires { (from ≤ to) × (to < length s.now) }
-    ensures { (from ≤ result) × (result ≤ to) × Free s.now a b from result }
-{
-    let mut p = eights(s, from, to, a, b);
-    while p < to {
-        if (s[p] == a) & (s[p + 1] == b) {
-            return p;
+    // The place from `from` on, at most `to`, up to which no place of whole groups of N has the two bytes in front. Not
+    // a walk over chunks: the last place of a group needs the first byte behind it.
+    fn groups<const N: usize>(&self, from: usize, to: usize) -> usize
+        requires { (0 < N) × (from ≤ to) × (to < length self.now.s.now) }
+        ensures most { result ≤ to }
+        ensures passed { Passes self.now from result }
+    {
+        let mut p = from;
+        while N <= to - p && self.none_of::<N>(p) {
+            p += N;
         }
-        p += 1;
+        p
     }
-    p
-}
 
-// So many places on, or the end where it is nearer.
-fn further(from: usize, end: usize, places: usize) -> usize
-    requires { from ≤ end }
-    ensures { (from ≤ result) × (result ≤ end) }
-{
-    if end - from < places {
-        end
-    } else {
-        from + places
-    }
-}
-
-// A place from `from` on, none before it having the bytes a and b in front: whole blocks are passed over.
-fn blocks(s: &[u8], from: usize, a: u8, b: u8) -> usize
-    requires { from < length s.now }
-    ensures { (from ≤ result) × (result < length s.now) × Free s.now a b from result }
-{
-    let end = s.len() - 1;
-    let mut p = from;
-    while 64 <= end - p {
-        if !free_run(s, p, 64, a, b) {
-            return near(s, p, end, a, b);
+    // The first place from `from` on that has the two bytes in front, or the last of all. It may be near: whole blocks
+    // are passed over where it is not.
+    fn pass(&self, from: usize) -> usize
+        requires { from < length self.now.s.now }
+        ensures { Passes self.now from result }
+    {
+        let end = self.s.len() - 1;
+        let to = end.min(from + 16);
+        let mut p = self.groups::<16>(from, to);
+        if p == to {
+            p = self.groups::<64>(to, end);
         }
-        p += 64;
+        let p = self.groups::<8>(p, end);
+        self.groups::<1>(p, end)
     }
-    near(s, p, end, a, b)
 }
 
-// The same, where such a place may be near.
-fn pass(s: &[u8], from: usize, a: u8, b: u8) -> usize
-    requires { from < length s.now }
-    ensures { (from ≤ result) × (result < length s.now) × Free s.now a b from result }
-{
-    let to = further(from, s.len() - 1, 16);
-    let p = near(s, from, to, a, b);
-    if p < to {
-        return p;
-    }
-    blocks(s, p, a, b)
-}
-
-// The next place where the sync word may stand, where its first k bytes stand at p: its bytes differ, so that none
-// begins within the whole word.
-fn beyond(p: usize, k: usize) -> usize
-    requires { p + 4 < 2 ^ 64 }
-    ensures { result ≡ pick (eqb k 4) (p + 4) (p + 1) }
-{
-    if k == 4 { p + 4 } else { p + 1 }
-}
-
-// The search from one of the last three places on, or from the end or past it: there only the beginning of a sync word
-// can be found.
-fn last_places(order: Order, s: &[u8], from: usize) -> Found
-    requires { length s.now < from + 4 }
+// Looks for a chunk: the first place from `from` on where one is complete or unfinished. None where there is none, and
+// where `from` lies past the end.
+#[tactic(auto, using(crate::proofs::Passes::search_read))]
+pub fn search(order: Order, s: &[u8], from: usize) -> Option<usize>
     ensures { result ≡ search_from order s.now from }
 {
-    let mut p = from;
-    while p < s.len() {
-        match near_end(order, s, p) {
-            At::Complete { code: _, size: _ } | At::Unfinished => return Found::Place(p),
-            At::NoSync | At::Bad(_) => {}
+    let word = SYNC.bytes(order);
+    let front = Front {
+        s,
+        first: word[0],
+        second: word[1],
+    };
+    let mut place = from;
+    // What stands at a place says how far to go on, so no `for` has the places.
+    while place < s.len() {
+        place = front.pass(place);
+        match look(order, s, place) {
+            At::Complete { .. } | At::Unfinished => return Some(place),
+            At::NoSync => place += 1,
+            // No sync word begins within one.
+            At::Bad(_) => place += 4,
         }
-        p += 1;
     }
-    Found::Nothing
+    None
 }
 
-// Looks for a chunk: the first place from `from` on where one is complete or unfinished. Nothing where there is none,
-// and where `from` lies past the end.
-pub fn search(order: Order, s: &[u8], from: usize) -> Found
-    ensures { result ≡ search_from order s.now from }
-{
-    if s.len() < 4 {
-        return last_places(order, s, from);
-    }
-    let last = s.len() - 4;
-    if last < from {
-        return last_places(order, s, from);
-    }
-    let word = num::u32_bytes(order, SYNC);
-    let mut p = blocks(s, from, word[0], word[1]);
-    'places: loop {
-        if last < p {
-            break last_places(order, s, p);
-        }
-        let mut k = 0;
-        'bytes: loop {
-            if k == 4 {
-                match headed(order, s, p) {
-                    At::Complete { code: _, size: _ } | At::Unfinished => {
-                        break 'places Found::Place(p)
-                    }
-                    At::NoSync | At::Bad(_) => break 'bytes,
-                }
-            }
-            if s[p + k] != word[k] {
-                break 'bytes;
-            }
-            k += 1;
-        }
-        p = pass(s, beyond(p, k), word[0], word[1]);
-    }
-}
-
-// Finds the byte order of a stream: that of the first sync word in it, whichever of the two orders this has. Neither,
+// Finds the byte order of a stream: that of the first sync word in it, whichever of the two orders this has. An error,
 // number 1, where no sync word of either order stands in it.
-pub fn find_order(s: &[u8]) -> OrderFound
+#[tactic(auto, using(crate::proofs::Laws::order_read))]
+pub fn find_order(s: &[u8]) -> Result<Order, NoSyncWord>
     ensures { order_said result ≡ order_of s.now }
 {
-    if s.len() < 4 {
-        return OrderFound::Neither;
+    // A loop: each of two words ends it with another order, so `find_map` would be the same tests in a closure.
+    for place in 0..s.len() {
+        let word = u32::at(Order::Big, s, place);
+        if word == SYNC {
+            return Ok(Order::Big);
+        }
+        if word == SYNC_TURNED {
+            return Ok(Order::Little);
+        }
     }
-    let last = s.len() - 4;
-    let mut place = 0;
-    loop {
-        if last < place {
-            break OrderFound::Neither;
-        }
-        let front = num::u32_at(Order::Big, s, place);
-        if front == SYNC {
-            break OrderFound::Is(Order::Big);
-        }
-        if front == SYNC_TURNED {
-            break OrderFound::Is(Order::Little);
-        }
-        place += 1;
-    }
+    Err(NoSyncWord)
 }

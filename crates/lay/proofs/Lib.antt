@@ -1,3 +1,3 @@
+pub mod Numbers
 pub mod Splice
-pub mod Stored
 pub mod Values

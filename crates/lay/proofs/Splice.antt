@@ -1,16 +1,14 @@
 -- Laws of bytes laid over a slice.
-use Prim.Native.Nat.{ℕ, ◌+◌, ◌-◌, ◌*◌, ◌/◌, ◌≤◌, ◌<◌}
-use mathlib.Core.Path.{◌≡◌, refl, sym, ap, ◌∙◌}
-use mathlib.Core.Bool.{Bool, true, false}
+use Prim.Native.Nat.{ℕ, ◌+◌, ◌-◌, ◌≤◌}
+use mathlib.Core.Path.{◌≡◌, sym, ap, ◌∙◌}
 use mathlib.Core.List.{List, [], ◌++◌, append_assoc, append-nil}
 use native.Mathlib.Omega.{arith}
-use native.Mathlib.Nat.{add-zero, le-div_iff_mul-le, div-lt_iff_lt-mul}
-use lib.Dec.{leb}
+use native.Mathlib.Nat.{add-zero}
 use lib.ListN.{length, take, drop, length-append, length-drop, take-append-drop}
 use lib.Seq.{take_at, drop-drop, drop-length, drop-append-add, length-take-le}
-use borrow.Author.Tests.{le-leb, lt-leb, leb-true, leb-false}
+use borrow.Author.Tests.{le-leb}
 use borrow.Rule.Slice.PartMut.{put_mid, Post-is}
-use Rattle.lay.specs.Splice.{splice, fits, overlaid}
+use Rattle.lay.specs.Splice.{splice, overlaid}
 
 -- a part that was lent and is back
 pub lent-back : (d ys : List ℕ) (a e : ℕ) → a ≤ e → length ys ≡ e - a → put_mid a (e - a) d ys ≡ splice d a ys
@@ -56,26 +54,3 @@ pub laid-whole : (d l vs : List ℕ) → length vs ≡ length d → l ≡ overla
 laid-whole d l vs n e =
     let m : 0 + length vs ≡ length d = omega arith in
     laid-first d l 0 vs (omega arith) e ∙ rw (m, drop-length d, append-nil vs)
-
--- ---- the test of the room
-
-module _ (d : List ℕ) (at : ℕ) (vs : List ℕ) (n : ℕ) (e : length vs ≡ n) (r : Bool) (test : r ≡ leb (at + n) (length d)) where
-  pub no-room : r ≡ false → (false ≡ fits d at vs) × (d ≡ overlaid d at vs)
-  no-room h = rw (e, ← test, h) (refl, refl)
-
-  -- a part as long as the bytes was lent and came back with them
-  pub has-room : r ≡ true → (true ≡ fits d at vs) × (put_mid at (at + n - at) d vs ≡ overlaid d at vs)
-  has-room h = rw (e, ← test, h) (refl, rw e at (lent-back d vs at (at + n) (omega arith) (omega arith)))
-
--- the part ends within the slice
-pub room-left : (d : List ℕ) (end : ℕ) (r : Bool) → r ≡ leb end (length d) → r ≡ true → end ≤ length d
-room-left d end r test h = leb-true end (length d) (sym test ∙ h)
-
--- so many values of w bytes end within `whole` where there are places for them behind `at`
-module _ (whole at w count : ℕ) (pos : 0 < w) (h : at ≤ whole) where
-  by-places : (b : Bool) → leb count ((whole - at) / w) ≡ b → b ≡ leb (at + count * w) whole
-  by-places true e = let m : count * w ≤ whole - at = (le-div_iff_mul-le pos).0 (leb-true _ _ e) in sym (le-leb (at + count * w) whole (omega arith))
-  by-places false e = let m : whole - at < count * w = (div-lt_iff_lt-mul pos).0 (leb-false _ _ e) in sym (lt-leb (at + count * w) whole (omega arith))
-
-  pub places : leb count ((whole - at) / w) ≡ leb (at + count * w) whole
-  places = by-places (leb count ((whole - at) / w)) refl

@@ -1,37 +1,13 @@
 // Bytes laid over a lent slice from a place on. Where they do not fit, nothing is written.
+// The place stands beside the slice, which is not cut there by the caller: one past the end is refused as well.
 #![tactic(auto)]
 
-pub mod runs;
+mod runs;
 
 ghost use Rattle.std.specs.Prelude.{◌≡◌, ◌+◌, ◌*◌, ◌≤◌, leb, length};
 ghost use Rattle.lay.specs.Splice.{fits, overlaid};
 
-pub use runs::{longs, shorts, words};
-
-// All of src over all of out, which is as long, the first few bytes by themselves. A compiler makes vectors of the
-// loop.
-fn fill(src: &[u8], few: usize, out: &mut [u8])
-    requires { (length src.now ≡ length out.old) × (few ≤ length src.now) }
-    ensures { out.new ≡ src.now }
-{
-    let mut j = 0;
-    while j < few {
-        out[j] = src[j];
-        j += 1;
-    }
-    while j < src.len() {
-        out[j] = src[j];
-        j += 1;
-    }
-}
-
-// How many of so many bytes come before the first that lies at a multiple of 16, from a place on. A long run of bytes
-// is copied faster from there: out is taken to lie at such an address itself. For a short run it does not pay.
-fn lead(at: usize, count: usize) -> usize
-    ensures { result ≤ count }
-{
-    if count < 256 { 0 } else { (16 - at % 16) % 16 }
-}
+pub use runs::run;
 
 // Whether `count` values of `stride` bytes fit into `whole` bytes from the place `at` on. Nothing is multiplied, so
 // that no test overflows.
@@ -39,10 +15,7 @@ fn room(whole: usize, at: usize, stride: usize, count: usize) -> bool
     requires { 1 ≤ stride }
     ensures { result ≡ leb (at + count * stride) whole }
 {
-    if whole < at {
-        return false;
-    }
-    count <= (whole - at) / stride
+    at <= whole && count <= (whole - at) / stride
 }
 
 // Copies all of src into out, from the place `at` on, and answers true. Where it does not fit the answer is false, and
@@ -55,6 +28,6 @@ pub fn bytes(src: &[u8], out: &mut [u8], at: usize) -> bool
         return false;
     }
     let end = at + src.len();
-    fill(src, lead(at, src.len()), &mut out[at..end]);
+    out[at..end].copy_from_slice(src);
     true
 }

@@ -7,6 +7,7 @@ use native.Mathlib.Omega.{arith}
 use lib.Dec.{leb}
 use lib.ListN.{length, drop, length-append, length-drop, drop_of_length-le}
 use borrow.Author.Tests.{leb-true, le-leb, lt-leb}
+use Rattle.std.specs.Prelude.{Ok}
 use Rattle.num.specs.Answer.{gives}
 use Rattle.num.specs.Choice.{pick}
 use Rattle.num.specs.declared.Order.{Order}
@@ -27,8 +28,7 @@ use Rattle.listing.specs.Lines.{answer_line, item_lines}
 use Rattle.listing.specs.Text.{text_of, shown}
 use Rattle.listing.specs.declared.string.Text.{Text}
 use Rattle.listing.proofs.Shown.{shows-all, text-len}
-use Rattle.lister.specs.Listed.{longest_line, items_of, laid_in}
-use Rattle.lister.specs.declared.Listed.TheVariants.{Laid, Needs}
+use Rattle.lister.specs.Listed.{longest_line, items_of, needs, laid_in}
 use Rattle.lister.specs.Inner.Laid.{Lays}
 use Rattle.lister.proofs.Lengths.{line-length}
 
@@ -68,12 +68,12 @@ three-lay d d₁ d₂ d₃ u v w a b r p q z =
 
 -- the answer, and what the slice holds, by the test of the room
 module _ (d vs : List ℕ) (n : ℕ) (l : n ≡ length vs) where
-  pub no-room : length d < n → (Needs n ≡ laid_in (length vs) (length d)) × (d ≡ overlaid d 0 vs)
+  pub no-room : length d < n → (needs n ≡ laid_in (length vs) (length d)) × (d ≡ overlaid d 0 vs)
   no-room h =
       let z : 0 + length vs ≡ n = omega arith in
       rw (z, ← l, lt-leb n (length d) h) (refl, refl)
 
-  pub has-room : (e : List ℕ) → n ≤ length d → Lays d 0 vs e → (Laid n ≡ laid_in (length vs) (length d)) × (e ≡ overlaid d 0 vs)
+  pub has-room : (e : List ℕ) → n ≤ length d → Lays d 0 vs e → (Ok n ≡ laid_in (length vs) (length d)) × (e ≡ overlaid d 0 vs)
   has-room e h p =
       let a : e ≡ splice d 0 vs = p (omega arith) in
       let z : 0 + length vs ≡ n = omega arith in

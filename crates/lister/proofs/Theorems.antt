@@ -8,6 +8,7 @@ use native.Mathlib.Omega.{arith}
 use lib.Dec.{ltb, leb}
 use lib.ListN.{length, get_or, drop, length-drop}
 use borrow.Author.Tests.{ltb-true, ltb-false, leb-true, leb-false}
+use Rattle.std.specs.Prelude.{Result, Ok, Err}
 use Rattle.num.specs.Answer.{Answer, gives, refuses}
 use Rattle.num.specs.Choice.{pick}
 use Rattle.num.specs.declared.Order.{Order}
@@ -18,9 +19,8 @@ use Rattle.frame.proofs.Theorems.{NoneBelow, order-lowest, order-refused}
 use Rattle.reader.specs.Item.{Item}
 use Rattle.lay.specs.Splice.{overlaid}
 use Rattle.listing.specs.Lines.{count_line, long_line, none_line, listing}
-use Rattle.lister.specs.Listed.{most, longest, items_of, listed, laid_in}
-use Rattle.lister.specs.declared.Listed.{Listed}
-use Rattle.lister.specs.declared.Listed.TheVariants.{Laid, Needs}
+use Rattle.lister.specs.Listed.{most, longest, items_of, listed, needs, laid_in}
+use Rattle.lister.specs.declared.Needs.{Needs}
 use Rattle.lister.proofs.Laws.{overlaid-length}
 use Rattle.lister.proofs.Bound.{listing-length}
 use Rattle.lister.proofs.Cases.{listed-long, listed-none, listed-by}
@@ -77,24 +77,29 @@ none-just s m = (
 
 -- ---- the cases of the answer
 
--- Laid says how many bytes the listing has, and that they fit; Needs says the same number, and that they do not.
+-- the number in an answer
+abbrev number_in : Result ℕ Needs → ℕ
+number_in (Ok n) = n
+number_in (Err e) = e.0
+
+-- Ok says how many bytes the listing has, and that they fit; Needs says the same number, and that they do not.
 module _ (n room k : ℕ) where
-  laid-by : (b : Bool) → leb n room ≡ b → pick b (Laid n) (Needs n) ≡ Laid k → (k ≡ n) × (n ≤ room)
+  laid-by : (b : Bool) → leb n room ≡ b → pick b (Ok n) (needs n) ≡ Ok k → (k ≡ n) × (n ≤ room)
   laid-by true t e = (cc, leb-true n room t)
   laid-by false t e = let z : ◌≡◌ {A = ℕ} 0 1 = cc in absurd (omega arith)
 
-  needs-by : (b : Bool) → leb n room ≡ b → pick b (Laid n) (Needs n) ≡ Needs k → (k ≡ n) × (room < n)
+  needs-by : (b : Bool) → leb n room ≡ b → pick b (Ok n) (needs n) ≡ needs k → (k ≡ n) × (room < n)
   needs-by true t e = let z : ◌≡◌ {A = ℕ} 0 1 = cc in absurd (omega arith)
-  needs-by false t e = (cc, leb-false n room t)
+  needs-by false t e = (sym (ap number_in e), leb-false n room t)
 
-  pub laid-told : laid_in n room ≡ Laid k → (k ≡ n) × (n ≤ room)
+  pub laid-told : laid_in n room ≡ Ok k → (k ≡ n) × (n ≤ room)
   laid-told e = laid-by (leb n room) refl e
 
-  pub needs-told : laid_in n room ≡ Needs k → (k ≡ n) × (room < n)
+  pub needs-told : laid_in n room ≡ needs k → (k ≡ n) × (room < n)
   needs-told e = needs-by (leb n room) refl e
 
--- Laid with a number says that the slice, as the call leaves it, has at least so many bytes.
-pub laid-within : (d e vs : List ℕ) (r : Listed) (k : ℕ) → r ≡ laid_in (length vs) (length d) → e ≡ overlaid d 0 vs → r ≡ Laid k → k ≤ length e
+-- Ok with a number says that the slice, as the call leaves it, has at least so many bytes.
+pub laid-within : (d e vs : List ℕ) (r : Result ℕ Needs) (k : ℕ) → r ≡ laid_in (length vs) (length d) → e ≡ overlaid d 0 vs → r ≡ Ok k → k ≤ length e
 laid-within d e vs r k p q h =
     let t = laid-told (length vs) (length d) k (sym p ∙ h) in
     omega (arith, t.0, t.1, ap length q, overlaid-length d 0 vs)

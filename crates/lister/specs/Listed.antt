@@ -1,5 +1,5 @@
 -- The whole listing of a stream, and what laying it into a slice answers.
-use Rattle.std.specs.Prelude.{ℕ, ◌+◌, ◌*◌, List, map, ltb, leb, length}
+use Rattle.std.specs.Prelude.{ℕ, ◌+◌, ◌*◌, List, map, ltb, leb, length, Result, Ok, Err}
 use Rattle.num.specs.Answer.{Answer, gives, refuses}
 use Rattle.num.specs.Choice.{pick}
 use Rattle.num.specs.declared.Order.{Order}
@@ -8,8 +8,7 @@ use Rattle.reader.specs.Item.{Item}
 use Rattle.reader.specs.Items.{Given, items}
 use Rattle.reader.specs.Rows.{rows_for}
 use Rattle.listing.specs.Lines.{long_line, none_line, listing}
-use Rattle.lister.specs.declared.Listed.{Listed}
-use Rattle.lister.specs.declared.Listed.TheVariants.{Laid, Needs}
+use Rattle.lister.specs.declared.Needs.{Needs}
 
 -- the most bytes of a stream that are listed
 abbrev pub most : ℕ
@@ -42,6 +41,10 @@ longest_last = 10
 abbrev pub longest : ℕ
 longest = longest_first + rows_for most * longest_line + longest_last
 
+-- the answer that a listing of n bytes needs room for them
+abbrev pub needs : ℕ → Result ℕ Needs
+needs n = Err record { 0 = n }
+
 -- the answer for a listing of n bytes and a slice of `room` bytes: it is laid where it fits
-abbrev pub laid_in : ℕ → ℕ → Listed
-laid_in n room = pick (leb n room) (Laid n) (Needs n)
+abbrev pub laid_in : ℕ → ℕ → Result ℕ Needs
+laid_in n room = pick (leb n room) (Ok n) (needs n)

@@ -8,7 +8,6 @@ ghost use Rattle.listing.specs.Text.{shown};
 ghost use Rattle.lister.specs.Listed.{most, items_of, listed, laid_in};
 ghost use Rattle.lister.specs.Inner.Laid.{Lays};
 
-use frame::OrderFound;
 use listing::Text;
 use num::Order;
 use reader::Cursor;
@@ -17,53 +16,54 @@ use reader::Cursor;
 pub const MOST: usize = 65536;
 
 // Room for a stream: one byte more than are listed, which tells a stream that is too long.
-pub const STREAM_ROOM: usize = 65537;
+pub const STREAM_ROOM: usize = MOST + 1;
 
-// The most items of a stream that is listed: what reader::rows_for answers for MOST.
+// The most items of a stream that is listed: what reader::rows_for answers for MOST, which a constant may not ask.
 const ROWS: usize = 2 * (MOST / 13) + 2;
 
 // Room for a listing: 18 bytes for its first line, 35 for the line of each item and 10 for its last line. No stream has
 // a longer one.
 pub const ROOM: usize = 18 + ROWS * 35 + 10;
 
-// What laying a listing answers.
-#[derive(Clone, Copy)]
-pub enum Listed {
-    // The listing has so many bytes, and they are the first of the slice.
-    Laid(usize),
-    // The listing has so many bytes, and the slice has fewer: it is as it was.
-    Needs(usize),
+// That a slice has too little room for a listing, which has so many bytes.
+#[derive(Clone, Copy, PartialEq, Eq)]
+pub struct Needs(pub usize);
+
+// A slice, and the place in it where the next line is laid. It goes on past the end of a slice that is too short, so it
+// is a number, and no part of the slice.
+#[derive(Drop)]
+struct Page<'a> {
+    out: &'a mut [u8],
+    at: usize,
 }
 
-// Lays a text at a place, where it fits, and answers the place past it.
-fn put(t: Text, out: &mut [u8], at: usize) -> usize
-    requires { (t.len ≤ 96) × (at + 96 < 2 ^ 64) }
-    ensures said { result ≡ at + length (shown t) }
-    ensures left { out.new ≡ overlaid out.old at (shown t) }
-{
-    let bytes = t.bytes;
-    let len = t.len;
-    let all: &[u8] = &bytes;
-    lay::bytes(&all[..len], out, at);
-    at + len
-}
-
-// Lays the lines of a stream's items from a place on, each where it fits, and answers the place past them.
-fn lines(order: Order, s: &[u8], out: &mut [u8], at: usize) -> usize
-    requires { (length s.now ≤ most) × (at ≤ 96) }
-    ensures said { result ≡ at + length (item_lines (items_of order s.now)) }
-    ensures left { Lays out.old at (item_lines (items_of order s.now)) out.new }
-{
-    let mut cursor = Cursor::new();
-    let mut to = at;
-    while cursor.place < s.len() {
-        let stepped = cursor.step(order, s);
-        let item = stepped.item;
-        to = put(listing::item_line(item), out, to);
-        let next = stepped.cursor;
-        cursor = next;
+impl<'a> Page<'a> {
+    // Lays a text at the place, where it fits, and goes past it.
+    fn put(&mut self, t: Text)
+        requires { (t.len ≤ 96) × (self.old.at + 96 < 2 ^ 64) }
+        ensures same { self.new.out.ghost_name ≡ self.old.out.ghost_name }
+        ensures said { self.new.at ≡ self.old.at + length (shown t) }
+        ensures left { self.new.out.now ≡ overlaid self.old.out.now self.old.at (shown t) }
+    {
+        lay::bytes(&t.bytes[..t.len], self.out, self.at);
+        self.at += t.len;
     }
-    to
+
+    // Lays the lines of a stream's items, each where it fits, and goes past them.
+    fn lines(&mut self, order: Order, s: &[u8])
+        requires { (length s.now ≤ most) × (self.old.at ≤ 96) }
+        ensures same { self.new.out.ghost_name ≡ self.old.out.ghost_name }
+        ensures said { self.new.at ≡ self.old.at + length (item_lines (items_of order s.now)) }
+        ensures left { Lays self.old.out.now self.old.at (item_lines (items_of order s.now)) self.new.out.now }
+    {
+        let mut cursor = Cursor::new();
+        // No range says where the items begin: a step gives the place of the next.
+        while cursor.place < s.len() {
+            let stepped = cursor.step(order, s);
+            self.put(listing::item_line(stepped.item));
+            cursor = stepped.cursor;
+        }
+    }
 }
 
 // Lays the lines of a stream in this order, first to last, each where it fits, and answers how many bytes they have.
@@ -74,9 +74,22 @@ fn ordered(order: Order, s: &[u8], out: &mut [u8]) -> usize
     ensures left { Lays out.old 0
         (listing order (length s.now) (items_of order s.now)) out.new }
 {
-    let at = put(listing::first_line(order, s.len()), out, 0);
-    let to = lines(order, s, out, at);
-    put(listing::last_line(reader::count(order, s)), out, to)
+    let mut page = Page { out, at: 0 };
+    page.put(listing::first_line(order, s.len()));
+    page.lines(order, s);
+    page.put(listing::last_line(reader::count(order, s)));
+    page.at
+}
+
+// Lays one line, where it fits, and answers how many bytes it has.
+fn alone(line: Text, out: &mut [u8]) -> usize
+    requires { line.len ≤ 96 }
+    ensures said { result ≡ 0 + length (shown line) }
+    ensures left { out.new ≡ overlaid out.old 0 (shown line) }
+{
+    let mut page = Page { out, at: 0 };
+    page.put(line);
+    page.at
 }
 
 // Lays the listing of a stream line by line, each line where it fits, and answers how many bytes it has.
@@ -86,11 +99,11 @@ fn whole(s: &[u8], out: &mut [u8]) -> usize
     ensures left { Lays out.old 0 (listed s.now) out.new }
 {
     if MOST < s.len() {
-        return put(listing::long_line(), out, 0);
+        return alone(listing::long_line(), out);
     }
     match frame::find_order(s) {
-        OrderFound::Is(order) => ordered(order, s, out),
-        OrderFound::Neither => put(listing::none_line(), out, 0),
+        Ok(order) => ordered(order, s, out),
+        Err(_) => alone(listing::none_line(), out),
     }
 }
 
@@ -98,24 +111,23 @@ fn whole(s: &[u8], out: &mut [u8]) -> usize
 fn measure(s: &[u8]) -> usize
     ensures { result ≡ length (listed s.now) }
 {
-    let mut none = [0u8; 1];
-    whole(s, &mut none)
+    whole(s, &mut [])
 }
 
-// Lays the listing of a stream at the front of out and answers Laid with its length; the rest of out is as it was. Of a
-// stream with more than 65,536 bytes the listing is the line `long`, and of one without a sync word `none`. Where out
-// is shorter than the listing, the answer is Needs with the listing's length, and out is as it was.
-pub fn lay(s: &[u8], out: &mut [u8]) -> Listed
+// Lays the listing of a stream at the front of out and answers its length; the rest of out is as it was. Of a stream
+// with more than 65,536 bytes the listing is the line `long`, and of one without a sync word `none`. Where out is
+// shorter than the listing, the answer is Needs with the listing's length, and out is as it was.
+pub fn lay(s: &[u8], out: &mut [u8]) -> Result<usize, Needs>
     ensures said { result ≡ laid_in (length (listed s.now)) (length out.old) }
     ensures left { out.new ≡ overlaid out.old 0 (listed s.now) }
 {
     // Where every listing has room, nothing has to be measured.
     if ROOM <= out.len() {
-        return Listed::Laid(whole(s, out));
+        return Ok(whole(s, out));
     }
     let n = measure(s);
     if out.len() < n {
-        return Listed::Needs(n);
+        return Err(Needs(n));
     }
-    Listed::Laid(whole(s, out))
+    Ok(whole(s, out))
 }

@@ -1,6 +1,5 @@
 pub mod Texts
 pub mod Numbers
-pub mod Told
 pub mod Theorems
 pub mod Shown
 pub mod Pieces

@@ -1,8 +1,9 @@
 -- The texts of the lines, and of the words of a dump, show all their bytes: none is longer than 96.
-use Prim.Native.Nat.{ℕ, zero, suc, ◌+◌, ◌-◌, ◌/◌, ◌%◌, ◌^◌, ◌≤◌, ◌<◌}
+use Prim.Native.Nat.{ℕ, zero, suc, ◌+◌, ◌*◌, ◌/◌, ◌%◌, ◌^◌, ◌≤◌, ◌<◌}
 use mathlib.Core.Path.{◌≡◌, refl, ◌∙◌}
 use mathlib.Core.Bool.{Bool, true, false}
 use mathlib.Core.List.{List, [], ◌∷◌}
+use native.Mathlib.Nat.{div-lt_iff_lt-mul, pow-suc}
 use native.Mathlib.Omega.{arith}
 use lib.Dec.{ltb}
 use lib.IntN.{ℤ, pos, negsuc}
@@ -32,7 +33,7 @@ use Rattle.listing.specs.Words.{number_word, integer_word, hex_word, cause_word,
 use Rattle.listing.specs.Lines.{is_known, verdict_word, count_line, first_line, stretch_line, chunk_line, answer_line, last_line}
 use Rattle.listing.specs.declared.Label.{Label}
 use Rattle.listing.specs.declared.Label.TheVariants.{Time, Mark, Packing, Rate, Bandwidth, GroupBandwidth, Frequency, FullScale, TotalGain, FloatScale, GroupPacking, GroupFrequencies, GroupGains, Sum, Samples, Text, Value, Cause}
-use Rattle.listing.proofs.Numbers.{decimal-one, decimal-more, tenth-less}
+use Rattle.listing.proofs.Numbers.{decimal-one, decimal-more}
 use Rattle.listing.proofs.Texts.{shown-text}
 
 length-by : (k n : ℕ) (b : Bool) → ltb n 10 ≡ b → (9 < n → length (decimal (n / 10)) ≤ k) → length (decimal n) ≤ k + 1
@@ -42,12 +43,19 @@ length-by k n false e r =
     let l = r h in
     rw (decimal-more n h, length-append (decimal (n / 10)) (digit (n % 10) ∷ [])) (omega arith)
 
+-- the tenth part needs a digit less
+tenth-less : (m i : ℕ) → m < 10 ^ (i + 2) → m / 10 < 10 ^ (i + 1)
+tenth-less m i h =
+    let e : i + 2 ≡ suc (i + 1) = omega arith in
+    let p : m < 10 ^ (i + 1) * 10 = rw (e, pow-suc) at h in
+    (div-lt_iff_lt-mul {k = 10} (omega arith)).1 p
+
 -- a number below a power of ten has no more digits
 pub decimal-length : (k n : ℕ) → n < 10 ^ (k + 1) → length (decimal n) ≤ k + 1
 decimal-length zero n h = length-by 0 n (ltb n 10) refl (λ (m : 9 < n). absurd (omega arith))
 decimal-length (suc k) n h =
-    let e : suc k - 1 + 1 ≡ k + 1 = omega arith in
-    let t : n / 10 < 10 ^ (k + 1) = rw e at (tenth-less n (suc k) (omega arith) h) in
+    let e : suc k + 1 ≡ k + 2 = omega arith in
+    let t : n / 10 < 10 ^ (k + 1) = tenth-less n k (rw e at h) in
     let l = length-by (suc k) n (ltb n 10) refl (λ (m : 9 < n). let d = decimal-length k (n / 10) t in omega arith) in
     omega arith
 

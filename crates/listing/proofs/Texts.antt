@@ -1,30 +1,28 @@
 -- Laws of texts: a text that grows is the text of the bytes put one after the other.
-use Prim.Native.Nat.{ℕ, zero, suc, ◌+◌, ◌≤◌, ◌<◌}
-use mathlib.Core.Path.{◌≡◌, refl, ap, sym, ◌∙◌}
-use mathlib.Core.Bool.{Bool, true, false}
-use mathlib.Core.List.{List, [], ◌∷◌, ◌++◌, append_assoc, append-nil}
+use Prim.Native.Nat.{ℕ, zero, suc, ◌+◌, ◌-◌, ◌≤◌, min}
+use mathlib.Core.Path.{◌≡◌, refl, ap}
+use mathlib.Core.List.{List, [], ◌∷◌, ◌++◌}
 use native.Mathlib.Omega.{arith}
-use lib.Dec.{ltb}
-use lib.ListN.{length, take, set, length-append}
-use lib.Seq.{take_all, length-take-le, take-append-le, take-take}
-use borrow.Author.Tests.{lt-ltb, le-ltb, ltb-true, ltb-false}
+use lib.ListN.{length, take, drop, length-append, length-take}
+use lib.Seq.{take-take}
 use Rattle.listing.specs.Text.{padded, text_of, shown}
-use Rattle.listing.specs.Inner.Text.{push, joins}
 use Rattle.listing.specs.declared.string.Text.{Text}
 
--- the first place that is not used is set
-padded-set : (k : ℕ) (l : List ℕ) (b : ℕ) → length l < k → set (padded k l) (length l) b ≡ padded k (l ++ (b ∷ []))
+-- a list put at the first places behind another
+padded-more : (k n : ℕ) (m : List ℕ) → n ≡ min (length m) k → take n m ++ drop n (padded k []) ≡ padded k m
 unfolding padded
-padded-set zero l b h = absurd (omega arith)
-padded-set (suc k) [] b h = refl
-padded-set (suc k) (a ∷ l) b h = ap (◌∷◌ a) (padded-set k l b (omega arith))
+padded-more zero n m h = let e : n ≡ 0 = omega arith in rw e refl
+padded-more (suc k) n [] h = let e : n ≡ 0 = omega arith in rw e refl
+padded-more (suc k) zero (b ∷ m) h = absurd (omega arith)
+padded-more (suc k) (suc n) (b ∷ m) h = ap (◌∷◌ b) (padded-more k n m (omega arith))
 
--- what comes after a full list is dropped
-padded-full : (k : ℕ) (l m : List ℕ) → k ≤ length l → padded k l ≡ padded k (l ++ m)
+padded-behind : (k i n : ℕ) (l m : List ℕ) → i ≡ min (length l) k → n ≡ min (length m) (k - i) →
+    take i (padded k l) ++ (take n m ++ drop n (drop i (padded k l))) ≡ padded k (l ++ m)
 unfolding padded
-padded-full zero l m h = refl
-padded-full (suc k) [] m h = absurd (omega arith)
-padded-full (suc k) (a ∷ l) m h = ap (◌∷◌ a) (padded-full k l m (omega arith))
+padded-behind zero i n l m h j = let e : i ≡ 0 = omega arith in let d : n ≡ 0 = omega arith in rw (e, d) refl
+padded-behind (suc k) i n [] m h j = let e : i ≡ 0 = omega arith in rw e (padded-more (suc k) n m (omega arith))
+padded-behind (suc k) zero n (a ∷ l) m h j = absurd (omega arith)
+padded-behind (suc k) (suc i) n (a ∷ l) m h j = ap (◌∷◌ a) (padded-behind k i n l m (omega arith) (omega arith))
 
 -- what is past the last place does not matter
 padded-first : (k j : ℕ) (m : List ℕ) → k ≤ j → padded k (take j m) ≡ padded k m
@@ -58,35 +56,15 @@ text_at bytes n = record { bytes = bytes; len = n }
 text-same : (b c : List ℕ) (m n : ℕ) → b ≡ c → m ≡ n → text_at b m ≡ text_at c n
 text-same b c m n p q = rw (p, q)
 
--- the text of l grows by a byte, where there is room and where there is none
-module _ (l : List ℕ) (b : ℕ) where
-  push-room : length l < 96 → push (text_of l) b ≡ text_of (l ++ (b ∷ []))
-  unfolding text_at
-  push-room h =
-      let n : length (take 96 l) ≡ length l = ap length (take_all 96 l (omega arith)) in
-      let s : length (l ++ (b ∷ [])) ≡ length l + 1 = length-append l (b ∷ []) in
-      let m : length (take 96 (l ++ (b ∷ []))) ≡ length l + 1 = ap length (take_all 96 (l ++ (b ∷ [])) (omega arith)) ∙ s in
-      rw (n, lt-ltb (length l) 96 h) (text-same _ _ _ _ (padded-set 96 l b h) (sym m))
-
-  push-full : 96 ≤ length l → push (text_of l) b ≡ text_of (l ++ (b ∷ []))
-  unfolding text_at
-  push-full h =
-      let n : length (take 96 l) ≡ 96 = length-take-le 96 l h in
-      let m : length (take 96 l) ≡ length (take 96 (l ++ (b ∷ []))) = ap length (sym (take-append-le 96 l (b ∷ []) h)) in
-      rw (le-ltb (length (take 96 l)) 96 (omega arith)) (text-same _ _ _ _ (padded-full 96 l (b ∷ []) h) m)
-
-  push-by : (t : Bool) → ltb (length l) 96 ≡ t → push (text_of l) b ≡ text_of (l ++ (b ∷ []))
-  push-by true e = push-room (ltb-true (length l) 96 e)
-  push-by false e = push-full (ltb-false (length l) 96 e)
-
-  push-text : push (text_of l) b ≡ text_of (l ++ (b ∷ []))
-  push-text = push-by (ltb (length l) 96) refl
-
--- the bytes of m after those of l
-pub joins-text : (l m : List ℕ) → joins (text_of l) m ≡ text_of (l ++ m)
-unfolding joins
-joins-text l [] = rw append-nil
-joins-text l (b ∷ m) = ap (λ (t : Text). joins t m) (push-text l b) ∙ joins-text (l ++ (b ∷ [])) m ∙ ap text_of (append_assoc l (b ∷ []) m)
+-- the text of l grows by the bytes of m for which there is room
+pub text-more : (t : Text) (i n : ℕ) (l m more : List ℕ) → t ≡ text_of l → i ≡ min t.len 96 → n ≡ min (length m) (96 - i) → more ≡ take n m →
+    ◌≡◌ {A = Text} (record { bytes = take i t.bytes ++ (more ++ drop n (drop i t.bytes)); len = i + n }) (text_of (l ++ m))
+unfolding text_at
+text-more t i n l m more p h j e =
+    let f : t.len ≡ length (take 96 l) = ap (λ (u : Text). u.len) p in
+    let k : i ≡ min (length l) 96 = omega (arith, f, length-take {A = ℕ}) in
+    let o : i + n ≡ length (take 96 (l ++ m)) = rw (length-take 96 (l ++ m), length-append l m) (omega arith) in
+    rw (p, e) (text-same _ _ _ _ (padded-behind 96 i n l m k j) o)
 
 -- the text of l shows the first 96 bytes of l
 pub shown-text : (l : List ℕ) → shown (text_of l) ≡ take 96 l
@@ -96,6 +74,11 @@ cut-text : (l m : List ℕ) → text_of (l ++ take 96 m) ≡ text_of (l ++ m)
 unfolding text_at
 cut-text l m = text-same _ _ _ _ (padded-cut 96 96 l m (omega arith)) (ap length (take-cut 96 96 l m (omega arith)))
 
--- the text of l and then that of m is the text of l and then m
-pub join-texts : (a b : Text) (l m : List ℕ) → a ≡ text_of l → b ≡ text_of m → joins a (shown b) ≡ text_of (l ++ m)
-join-texts a b l m p q = rw (p, q, shown-text m, joins-text l (take 96 m)) (cut-text l m)
+-- what a text shows stands for what it is the text of
+pub shown-more : (t : Text) (n : ℕ) (l m : List ℕ) → t ≡ text_of m → n ≡ min t.len 96 → text_of (l ++ take n t.bytes) ≡ text_of (l ++ m)
+shown-more t n l m p h =
+    let f : t.len ≡ length (take 96 m) = ap (λ (u : Text). u.len) p in
+    let e : n ≡ length (take 96 m) = omega (arith, f, length-take {A = ℕ}) in
+    rw (p, e, shown-text m) (cut-text l m)
+
+pub ruleset growing = (text-more, shown-more)

@@ -4,4 +4,3 @@ pub mod Text
 pub mod Words
 pub mod Lines
 pub mod Characters
-pub mod Inner

@@ -1,13 +1,13 @@
 // The characters of a text as a dump shows them, piece by piece.
-ghost use Rattle.std.specs.Prelude.{◌≡◌, get_or, drop};
+ghost use Rattle.std.specs.Prelude.{◌≡◌, drop};
 ghost use Rattle.listing.specs.Text.{text_of};
-ghost use Rattle.listing.specs.Characters.{is_hidden, are_hidden, escape, shown_byte, first_piece};
+ghost use Rattle.listing.specs.Characters.{is_hidden, escape, shown_byte, first_piece};
 
-use crate::digits::hex_digit;
+use crate::digits::hex;
 use crate::string::{Text, word};
 
 // What is shown for some bytes of a text, at most four bytes, and how many bytes of the text these are.
-#[derive(Clone, Copy)]
+#[derive(Clone, Copy, PartialEq, Eq)]
 pub struct Piece {
     pub text: Text,
     pub length: usize,
@@ -17,25 +17,14 @@ pub struct Piece {
 fn is_hidden(b: u8) -> bool
     ensures { result ≡ is_hidden b }
 {
-    (b < 0x20) | ((b == 0x7F) | (b == 0x5C))
-}
-
-// Whether two bytes are a control character.
-fn are_hidden(b: u8, c: u8) -> bool
-    ensures { result ≡ are_hidden b c }
-{
-    (b == 0xC2) & ((0x80 <= c) & (c <= 0x9F))
+    b.is_ascii_control() || b == b'\\'
 }
 
 // A character by its number.
 fn escape(n: u8) -> Text
     ensures { result ≡ text_of (escape n) }
 {
-    let wide = n as u32;
-    let high = hex_digit(wide / 16 % 16);
-    let low = hex_digit(wide % 16);
-    let bytes = [0x5C, 0x78, high, low];
-    word(&bytes)
+    word(b"\\x").joined(word(&hex::<2>(u32::from(n))))
 }
 
 // A byte by itself.
@@ -45,38 +34,28 @@ fn shown_byte(b: u8) -> Text
     if is_hidden(b) {
         return escape(b);
     }
-    let bytes = [b];
-    word(&bytes)
-}
-
-// 0 past the end.
-fn byte_at(s: &[u8], at: usize) -> u8
-    ensures { result ≡ get_or s.now at 0 }
-{
-    if at < s.len() { s[at] } else { 0 }
+    word(&[b])
 }
 
 // The piece at a place of a text: a control character or the backslash by its number, any other byte as it stands. No
-// piece at the end or past it: no byte is shown, for none of the text.
+// piece at the end or past it: no byte is shown, for none of the text. The place stands beside the text, since a caller
+// goes on in it by the length of the piece. A piece of length 0 is how the definition says that there is none
+// (specs/Characters.antt `first_piece`), so the answer is no Option.
 pub fn piece_at(s: &[u8], at: usize) -> Piece
     ensures { result ≡ first_piece (drop at s.now) }
 {
-    if s.len() <= at {
-        return Piece {
+    match s.get(at..).unwrap_or(&[]) {
+        [] => Piece {
             text: word(b""),
             length: 0,
-        };
-    }
-    let b = s[at];
-    let c = byte_at(s, at + 1);
-    if are_hidden(b, c) {
-        return Piece {
-            text: escape(c),
+        },
+        [0xC2, c @ 0x80..=0x9F, ..] => Piece {
+            text: escape(*c),
             length: 2,
-        };
-    }
-    Piece {
-        text: shown_byte(b),
-        length: 1,
+        },
+        [b, ..] => Piece {
+            text: shown_byte(*b),
+            length: 1,
+        },
     }
 }

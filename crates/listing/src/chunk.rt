@@ -8,17 +8,21 @@ ghost use Rattle.listing.specs.Text.{text_of};
 ghost use Rattle.listing.specs.Words.{spaced};
 ghost use Rattle.listing.specs.Lines.{name_by, verdict_word, chunk_line};
 
-use crate::string::{Text, joined, word};
-use crate::words::{hex_word, newline, number, numbered};
+use crate::string::{Text, word};
+use crate::words::{hex_word, newline, number, numbered, spaced};
 use body::Kind;
 use effect::Verdict;
+use num::Numbered;
 
 // The place, name, size and verdict.
 pub(crate) fn chunk(place: usize, code: u32, size: usize, verdict: Verdict) -> Text
     ensures { result ≡ text_of (chunk_line place code size (verdict_said verdict)) }
 {
-    let t = joined(numbered(b"chunk", place), name(code));
-    joined(joined(joined(t, number(size)), judged(verdict)), newline())
+    numbered(b"chunk", place)
+        .joined(name(code))
+        .joined(number(size))
+        .joined(judged(verdict))
+        .joined(newline())
 }
 
 // The letters of a known type, or the digits of another.
@@ -35,8 +39,7 @@ fn name(code: u32) -> Text
 fn letters(code: u32) -> Text
     ensures { result ≡ text_of (spaced (bytes_of Big 4 code)) }
 {
-    let bytes = body::letters_of(code);
-    joined(word(b" "), word(&bytes))
+    spaced(&body::letters_of(code))
 }
 
 // The word of a verdict, with its number where it has one.
@@ -46,8 +49,7 @@ fn judged(verdict: Verdict) -> Text
     match verdict {
         Verdict::Good | Verdict::Ready(_) => word(b" ok"),
         Verdict::Unknown => word(b" unknown"),
-        Verdict::Malformed(fault) => numbered(b" bad", fault.number() as usize),
-        Verdict::NotCovered => numbered(b" bad", 16),
-        Verdict::Waits(lack, _) => numbered(b" wait", lack.number() as usize),
+        Verdict::Malformed(_) | Verdict::NotCovered => numbered(b" bad", verdict.number() as usize),
+        Verdict::Waits(..) => numbered(b" wait", verdict.number() as usize),
     }
 }

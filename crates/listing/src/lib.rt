@@ -1,4 +1,5 @@
-// The listing: its lines, and the words of the dump, as texts of ASCII handed back by value.
+// The listing: its lines, and the words of the dump, as texts of ASCII handed back by value. No `Display`: by its contract
+// it may fail to write, and what a text holds is promised byte for byte.
 #![tactic(auto)]
 
 mod characters;
@@ -14,7 +15,7 @@ pub use string::{Text, word};
 pub use words::{cause, decimal, hex_word, newline, number, short};
 
 // What a line of the dump is about.
-#[derive(Clone, Copy)]
+#[derive(Clone, Copy, PartialEq, Eq)]
 pub enum Label {
     // The time of a chunk's first sample.
     Time,

@@ -5,7 +5,7 @@ ghost use Rattle.listing.specs.Text.{text_of};
 ghost use Rattle.listing.specs.Lines.{first_line, count_line, stretch_line, answer_line, last_line, long_line, none_line};
 
 use crate::chunk::chunk;
-use crate::string::{Text, joined, word};
+use crate::string::{Text, word};
 use crate::words::{newline, number, numbered};
 use num::Order;
 use reader::Item;
@@ -26,11 +26,7 @@ pub fn item_line(item: Item) -> Text
 {
     match item {
         Item::PastEnd | Item::BadState | Item::End => word(b""),
-        Item::Skipped {
-            place,
-            length,
-            cause: _,
-        } => stretch(b"skip", place, length),
+        Item::Skipped { place, length, .. } => stretch(b"skip", place, length),
         Item::Unfinished { place, length } => stretch(b"cut", place, length),
         Item::Chunk {
             place,
@@ -62,17 +58,20 @@ pub fn none_line() -> Text
     word(b"none\n")
 }
 
-// A head and a number.
+// A head and a number, which is no length of it.
+#[tactic(auto, unfolding(crate::specs::Lines::count_line))]
 fn count_line(head: &[u8], n: usize) -> Text
     ensures { result ≡ text_of (count_line head.now n) }
 {
-    joined(numbered(head, n), newline())
+    numbered(head, n).joined(newline())
 }
 
 // A head, and the place and length of a stretch of bytes.
+#[tactic(auto, unfolding(crate::specs::Lines::stretch_line))]
 fn stretch(head: &[u8], place: usize, length: usize) -> Text
     ensures { result ≡ text_of (stretch_line head.now place length) }
 {
-    let t = joined(numbered(head, place), number(length));
-    joined(t, newline())
+    numbered(head, place)
+        .joined(number(length))
+        .joined(newline())
 }

@@ -1,11 +1,12 @@
 // Words: what stands in a line, with its space before it.
 ghost use Rattle.std.specs.Prelude.{◌≡◌, ◌++◌};
 ghost use Rattle.listing.specs.Text.{text_of};
-ghost use Rattle.listing.specs.Words.{newline, number_word, integer_word, hex_word, cause_word, head_of};
+ghost use Rattle.listing.specs.Words.{newline, spaced, number_word, integer_word, hex_word, cause_word, head_of};
 
 use crate::Label;
-use crate::digits::{eight, natural};
-use crate::string::{Text, joined, word};
+use crate::digits::hex;
+use crate::string::{Text, word};
+use itoa::{Buffer, Integer};
 use reader::Cause;
 
 // The end of a line.
@@ -15,50 +16,56 @@ pub fn newline() -> Text
     word(b"\n")
 }
 
+// Some bytes after a space.
+pub(crate) fn spaced(s: &[u8]) -> Text
+    ensures { result ≡ text_of (spaced s.now) }
+{
+    word(b" ").joined(word(s))
+}
+
+// A number as std prints it, after a space. By its contract Display may fail to write any number, so itoa writes the
+// digits.
+fn printed<I: Integer>(n: I) -> Text
+    ensures { result ≡ text_of (spaced (I.text n)) }
+{
+    spaced(Buffer::new().format(n).as_bytes())
+}
+
 // A count in decimal, after a space.
+#[tactic(auto, using(crate::proofs::Numbers::std_digits))]
 pub fn number(n: usize) -> Text
     ensures { result ≡ text_of (number_word n) }
 {
-    joined(word(b" "), natural(n))
+    printed(n)
 }
 
-// A head and a number.
+// A head and a number, which is no length of it.
 pub(crate) fn numbered(head: &[u8], n: usize) -> Text
     ensures { result ≡ text_of (head.now ++ number_word n) }
 {
-    joined(word(head), number(n))
+    word(head).joined(number(n))
 }
 
 // An integer in decimal, after a space.
+#[tactic(auto, using(crate::proofs::Numbers::std_digits))]
 pub fn decimal(n: i64) -> Text
     ensures { result ≡ text_of (integer_word n) }
 {
-    if n < 0 {
-        let below = (!n) as usize;
-        return joined(word(b" -"), natural(below + 1));
-    }
-    number(n as usize)
-}
-
-// A number of 16 bits is one of 64.
-fn wide(n: i16) -> i64
-    ensures { result ≡ n }
-{
-    n as i64
+    printed(n)
 }
 
 // A 16-bit integer in decimal, after a space.
 pub fn short(n: i16) -> Text
     ensures { result ≡ text_of (integer_word n) }
 {
-    decimal(wide(n))
+    decimal(i64::from(n))
 }
 
 // A pattern of 32 bits in eight hex digits, after a space.
 pub fn hex_word(p: u32) -> Text
     ensures { result ≡ text_of (hex_word p) }
 {
-    joined(word(b" "), eight(p))
+    spaced(&hex::<8>(p))
 }
 
 // Why bytes were skipped, in one word after a space.

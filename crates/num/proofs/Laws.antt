@@ -1,18 +1,16 @@
 -- Laws of numbers and their bytes, each once over the width and the order.
-use Prim.Native.Nat.{ℕ, zero, suc, ◌+◌, ◌-◌, ◌*◌, ◌/◌, ◌%◌, ◌^◌, ◌≤◌, ◌<◌}
+use Prim.Native.Nat.{ℕ, zero, suc, ◌+◌, ◌*◌, ◌/◌, ◌%◌, ◌^◌, ◌≤◌, ◌<◌}
 use mathlib.Core.Path.{◌≡◌, refl, sym, ap, ◌∙◌}
-use mathlib.Core.Bool.{true, false}
-use mathlib.Core.List.{List, [], ◌∷◌, ◌++◌, reverse, reverse_aux, reverse-reverse}
+use mathlib.Core.List.{List, [], ◌∷◌, ◌++◌, reverse_aux, reverse-reverse}
 use native.Mathlib.Omega.{arith}
-use native.Mathlib.Nat.{pow-succ', add-zero}
-use borrow.Author.Tests.{ltb-true, le-leb, lt-leb}
-use lib.ListN.{length, get_or, take, drop, length-reverse}
+use native.Mathlib.Nat.{pow-succ'}
+use borrow.Author.Tests.{le-leb, lt-leb}
+use lib.ListN.{length, get_or, take, drop, replicate, length-reverse}
 use lib.Seq.{drop-cons, take_all}
-use lib.IntN.{ℤ, pos, negsuc}
-use lib.Signed.{lt_z}
+use lib.IntN.{ℤ}
 use mir.Syntax.{Width, w8, w16, w32, w64, w128}
-use mir.Val.{to_z, of_z, SFits, Fits, bits, hbits, bytes}
-use mir.ValLaws.{to_z-of_z, to_z_pos, of_z_fits, pow-bits}
+use mir.Val.{to_z, of_z, SFits, Fits, bits, bytes}
+use mir.ValLaws.{to_z-of_z, of_z_fits}
 use Rattle.num.specs.declared.Order.{Order}
 use Rattle.num.specs.declared.Order.TheVariants.{Big, Little}
 use Rattle.num.specs.Number.{least_first, number, digits, unsigned, unsigned_at, signed, bytes_of}
@@ -114,42 +112,19 @@ pub written-read : (o : Order) (l : List ℕ) → Bytes l → bytes_of o (length
 written-read o l g =
     ap (least_first o) (rw (← least-length o l) (digits-number (least_first o l) (least-bytes o l g))) ∙ least-twice o l
 
--- the number at a place, where there is none and where it is read byte by byte
+-- the number at a place, where there is none and where there is one
 pub at-none : (k : ℕ) (o : Order) (s : List ℕ) (p : ℕ) → length s < p + k → 0 ≡ unsigned_at k o s p
 at-none k o s p h = rw (lt-leb (p + k) (length s) h)
 
 pub at-some : (k : ℕ) (o : Order) (s : List ℕ) (p : ℕ) → p + k ≤ length s → unsigned_at k o s p ≡ unsigned o (take k (drop p s))
 at-some k o s p h = rw (le-leb (p + k) (length s) h)
 
-pub at-elems : (k : ℕ) (o : Order) (s : List ℕ) (p r : ℕ) → p + k ≤ length s → r ≡ unsigned o (elems p 0 k s) → r ≡ unsigned_at k o s p
-at-elems k o s p r h e =
-    let q : take k (drop p s) ≡ elems p 0 k s = rw add-zero at (part-elems p 0 k s (omega arith)) in
-    e ∙ ap (unsigned o) (sym q) ∙ sym (at-some k o s p h)
+-- zeros, in either order, are 0
+zeros : (k : ℕ) (l : List ℕ) → number l ≡ 0 → number (reverse_aux (replicate k 0) l) ≡ 0
+zeros zero l h = h
+zeros (suc k) l h = zeros k (0 ∷ l) (omega (arith, h))
 
--- the number of some bytes that were read one by one
-pub taken : (k : ℕ) (l : List ℕ) (r : ℕ) → length l ≡ k → r ≡ number (elems 0 0 k l) → r ≡ number l
-taken k l r q e = e ∙ ap number (all-elems k l q)
-
--- the number of some bytes, with its own bytes the other way round
-pub swapped : (k : ℕ) (l : List ℕ) (n r : ℕ) → length l ≡ k → Bytes l → n ≡ number (elems 0 0 k l) → r ≡ number (reverse (digits k n)) → r ≡ number (reverse l)
-swapped k l n r q g e h =
-    let d : digits k n ≡ l = rw (e, all-elems k l q, ← q) (digits-number l g) in
-    h ∙ rw d
-
--- a signed number below 0, and its pattern with each bit turned
-pub below : (w : Width) (z : ℤ) → SFits w z → lt_z (to_z w (of_z w z)) (pos 0) ≡ true →
-    (k : ℕ) × (k < 2 ^ hbits w) × (to_z w (2 ^ bits w - 1 - of_z w z) ≡ pos k) × (2 ^ bits w - 1 - k ≡ of_z w z)
-below w (pos n) f h = absurd (omega (arith, ltb-true n 0 (rw (to_z-of_z w (pos n) f) at h)))
-below w (negsuc n) f h =
-    let q : n < 2 ^ hbits w = f.sfits in
-    let b : 2 ^ bits w ≡ 2 ^ hbits w * 2 = pow-bits w in
-    let e : 2 ^ bits w - 1 - (2 ^ bits w - suc n) ≡ n = omega arith in
-    (n, q, ap (to_z w) e ∙ to_z_pos w n q, omega arith)
-
--- one that is not below 0
-pub natural : (w : Width) (z : ℤ) → SFits w z → lt_z (to_z w (of_z w z)) (pos 0) ≡ false →
-    (k : ℕ) × (k < 2 ^ hbits w) × (to_z w (of_z w z) ≡ pos k) × (k ≡ of_z w z)
-natural w (pos n) f h = (n, f.sfits, to_z-of_z w (pos n) f, refl)
-natural w (negsuc n) f h =
-    let e = rw (to_z-of_z w (negsuc n) f) at h in
-    let z : ◌≡◌ {A = ℕ} 0 1 = cc in absurd (omega arith)
+pub unsigned_zeros : (o : Order) (k : ℕ) → unsigned o (replicate k 0) ≡ 0
+unsigned_zeros Big k = zeros k [] refl
+unsigned_zeros Little zero = refl
+unsigned_zeros Little (suc k) = omega (arith, unsigned_zeros Little k)

@@ -1,5 +1,5 @@
 -- What a call answers: what it was asked for, or one of the numbers of refusal.
-use Rattle.std.specs.Prelude.{ℕ}
+use Rattle.std.specs.Prelude.{ℕ, Result, Ok, Err}
 
 pub data Answer (A : Type 0) : Type 0 where
   gives : A → Answer A
@@ -25,3 +25,8 @@ reply_with own (refuses n) = record { number = n; value = own }
 abbrev pub then : {A B : Type 0} → Answer A → (A → Answer B) → Answer B
 then (gives a) f = f a
 then (refuses n) f = refuses n
+
+-- what a result says, where each error has a number of refusal
+abbrev pub answered : {A E : Type 0} → (E → ℕ) → Result A E → Answer A
+answered number (Ok a) = gives a
+answered number (Err e) = refuses (number e)

@@ -4,10 +4,8 @@
 
 use body::Data;
 use effect::Verdict;
-use frame::OrderFound;
 use num::Order;
 use reader::{Cursor, Item, Stepped};
-use samples::Copied;
 use show::print;
 use std::io;
 
@@ -18,13 +16,14 @@ fn main(rt: HostRuntime) -> io::Result<()> {
 }
 
 fn recording(rt: &impl Print, s: &[u8]) -> io::Result<()> {
-    if let OrderFound::Is(order) = frame::find_order(s) {
+    if let Ok(order) = frame::find_order(s) {
         items(rt, order, s)?;
     }
     Ok(())
 }
 
 // One step after the other. Each item has a byte at least, so there are no more steps than bytes.
+// Output, order and bytes go on one by one, as the library takes them: a struct would be taken apart for each call.
 fn items(rt: &impl Print, order: Order, s: &[u8]) -> io::Result<()> {
     let mut cursor = Cursor::new();
     for _ in 0..s.len() {
@@ -41,19 +40,13 @@ fn items(rt: &impl Print, order: Order, s: &[u8]) -> io::Result<()> {
 
 // A line for a chunk that is ready, none for any other item.
 fn chunk(rt: &impl Print, order: Order, s: &[u8], stepped: Stepped) -> io::Result<()> {
-    let item = stepped.item;
-    if let Item::Chunk {
-        place: _,
-        code: _,
-        size: _,
-        verdict,
-    } = item
-    {
-        if let Verdict::Ready(data) = verdict {
-            line(rt, order, s, stepped, data)?;
-        }
+    match stepped.item {
+        Item::Chunk {
+            verdict: Verdict::Ready(data),
+            ..
+        } => line(rt, order, s, stepped, data),
+        _ => Ok(()),
     }
-    Ok(())
 }
 
 // The frequency is `-` where none is known. Channels are numbered from 0, and the first number that there is not ends
@@ -62,11 +55,12 @@ fn line(rt: &impl Print, order: Order, s: &[u8], stepped: Stepped, data: Data) -
     print(rt, listing::word(b"peak"))?;
     print(rt, listing::decimal(data.time))?;
     let centre = stepped.shown.values.centre;
-    if centre.present {
-        print(rt, listing::decimal(centre.value))?;
+    let frequency = if centre.present {
+        listing::decimal(centre.value)
     } else {
-        print(rt, listing::word(b" -"))?;
-    }
+        listing::word(b" -")
+    };
+    print(rt, frequency)?;
     for channel in 0..16 {
         shorts(rt, order, s, stepped, channel)?;
         patterns(rt, order, s, stepped, channel)?;
@@ -83,25 +77,11 @@ fn shorts(
     channel: usize,
 ) -> io::Result<()> {
     let mut out = [0i16; 34816];
-    if let Copied::Count(n) = samples::shorts_of(order, s, stepped, channel, &mut out) {
-        largest_short(rt, &out, n)?;
+    let n = samples::shorts_of(order, s, stepped, channel, &mut out).unwrap_or(0);
+    match out.iter().take(n).max() {
+        Some(largest) => print(rt, listing::short(*largest)),
+        None => Ok(()),
     }
-    Ok(())
-}
-
-fn largest_short(rt: &impl Print, xs: &[i16], n: usize) -> io::Result<()> {
-    if 0 < n {
-        let mut largest = i16::MIN;
-        for i in 0..n {
-            if i < xs.len() {
-                if largest < xs[i] {
-                    largest = xs[i];
-                }
-            }
-        }
-        print(rt, listing::short(largest))?;
-    }
-    Ok(())
 }
 
 // The same of a channel of floats, by its pattern. No NaN is the largest.
@@ -113,39 +93,25 @@ fn patterns(
     channel: usize,
 ) -> io::Result<()> {
     let mut out = [0u32; 17408];
-    if let Copied::Count(n) = samples::patterns_of(order, s, stepped, channel, &mut out) {
-        largest_pattern(rt, &out, n)?;
+    let n = samples::patterns_of(order, s, stepped, channel, &mut out).unwrap_or(0);
+    let numbers = out.iter().take(n).copied().filter(|p| is_number(*p));
+    match numbers.max_by_key(|p| rank(*p)) {
+        Some(largest) => print(rt, listing::hex_word(largest)),
+        None => Ok(()),
     }
-    Ok(())
 }
 
-fn largest_pattern(rt: &impl Print, xs: &[u32], n: usize) -> io::Result<()> {
-    let mut found = false;
-    let mut largest = 0;
-    for i in 0..n {
-        if i < xs.len() {
-            if is_larger(xs[i], found, largest) {
-                largest = xs[i];
-                found = true;
-            }
-        }
-    }
-    if found {
-        print(rt, listing::hex_word(largest))?;
-    }
-    Ok(())
-}
-
-// Whether a pattern is a number, and larger than the one found so far, if there is one.
-fn is_larger(pattern: u32, found: bool, largest: u32) -> bool {
-    (pattern % 0x8000_0000 <= 0x7F80_0000) & (!found | (rank(largest) < rank(pattern)))
+// Whether a pattern is no NaN: `f32::from_bits` may not be asked, since it requires that.
+fn is_number(pattern: u32) -> bool {
+    pattern % 0x8000_0000 <= 0x7F80_0000
 }
 
 // Patterns of floats in the order of the floats: a negative one has the top bit set and grows downwards.
+// By hand: `f32::from_bits` requires that there is no NaN, and inside the closure nothing says so.
 fn rank(pattern: u32) -> u32 {
     if pattern < 0x8000_0000 {
         pattern + 0x8000_0000
     } else {
-        0xFFFF_FFFF - pattern
+        !pattern
     }
 }

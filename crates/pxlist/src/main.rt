@@ -4,7 +4,6 @@
 ghost use Rattle.std.specs.Prelude.{◌≡◌, length};
 ghost use Rattle.lister.specs.Listed.{longest};
 
-use lister::Listed;
 use std::io;
 
 fn main(rt: HostRuntime) -> io::Result<()> {
@@ -21,9 +20,10 @@ fn room() -> [u8; lister::ROOM]
 }
 
 // Writes the listing to standard output.
+#[tactic(auto, using(crate::proofs::Within::within))]
 fn list(rt: &impl Print, s: &[u8]) -> io::Result<()> {
     let mut out = room();
-    if let Listed::Laid(n) = lister::lay(s, &mut out) {
+    if let Ok(n) = lister::lay(s, &mut out) {
         rt.write_all(&out[..n])?;
     }
     Ok(())

@@ -1,6 +1,9 @@
 -- Laws of a step, by what stands at the cursor's place.
+use Rattle.std.specs.Prelude.{Option, Some, None}
+use Rattle.std.specs.Option.{unwrap_or}
+use Rattle.frame.proofs.Laws.{search-at, search-end}
 use Prim.Native.Nat.{ℕ, ◌+◌, ◌-◌, ◌≤◌, ◌<◌}
-use mathlib.Core.Path.{◌≡◌, refl, ap, ◌∙◌}
+use mathlib.Core.Path.{◌≡◌, refl, sym, ap, ◌∙◌}
 use mathlib.Core.Bool.{true, false}
 use mathlib.Core.List.{List, [], ◌∷◌}
 use mathlib.Core.Logic.{◌⊎◌, inl, inr}
@@ -12,7 +15,7 @@ use borrow.Author.Tests.{lt-ltb, le-ltb}
 use types.Run.{OneOf, miss}
 use Rattle.num.specs.Answer.{gives, refuses}
 use Rattle.num.specs.declared.Order.{Order}
-use Rattle.frame.specs.Place.{shows, stops, gap}
+use Rattle.frame.specs.Place.{shows, stops, gap, search_from}
 use Rattle.frame.specs.Ahead.{ahead_of}
 use Rattle.frame.specs.Ahead as Ahead
 use Rattle.frame.specs.declared.At.TheVariants.{Complete}
@@ -20,7 +23,7 @@ use Rattle.frame.specs.declared.Stray.{Stray}
 use Rattle.frame.specs.declared.Ahead.{Ahead}
 use Rattle.frame.specs.declared.Ahead.TheVariants.{End, Stretch, Cut, Chunk}
 use Rattle.frame.proofs.Looks.{ahead-at, stretch-ahead}
-use Rattle.frame.proofs.Frames.{complete}
+use Rattle.frame.proofs.Frames.{complete, gap-le}
 use Rattle.effect.specs.Ready.{no_state}
 use Rattle.effect.specs.Says.{Says}
 use Rattle.reader.specs.Item.{Item, end, skipped, unfinished, chunk, of_chunk, is_chunk, is_end, placed_by, item_said}
@@ -142,3 +145,11 @@ placed-back f g h end = refl
 placed-back f g h (skipped p n cause) = rw (h p)
 placed-back f g h (unfinished p n) = rw (h p)
 placed-back f g h (chunk p code size says) = rw (h p)
+
+-- the place where a search stops, or the end
+pub stop-or : (o : Order) (s : List ℕ) (from : ℕ) (r : Option ℕ) → r ≡ search_from o s from → from ≤ length s →
+    (unwrap_or r (length s) ≡ from + gap o (drop from s)) × (unwrap_or r (length s) ≤ length s)
+stop-or o s from (Some p) e le = let h = search-at o s from p (sym e) in (sym h.0, omega (arith, h.1))
+stop-or o s from None e le =
+    let h = search-end o s from (sym e) in
+    (omega (arith, h, gap-le o (drop from s), length-drop from s), omega arith)

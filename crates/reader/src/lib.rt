@@ -9,8 +9,6 @@ ghost use Rattle.effect.specs.Effect.{effect};
 ghost use Rattle.effect.specs.Ready.{no_state};
 ghost use Rattle.frame.specs.Frames.{width, first};
 ghost use Rattle.frame.specs.Place.{header_size, gap};
-ghost use Rattle.state.specs.Good.{good_held};
-ghost use Rattle.state.specs.State.{with_mark};
 ghost use Rattle.reader.specs.Cause.{cause_of};
 ghost use Rattle.reader.specs.Item.{item_said, item_number};
 ghost use Rattle.reader.specs.Items.{items};
@@ -19,12 +17,13 @@ ghost use Rattle.reader.specs.Rows.{rows_for};
 ghost use Rattle.reader.specs.Step.{new_cursor, before, accepted, lost, accepts, cuts, skips, step_of};
 
 use effect::Verdict;
-use frame::{Ahead, BadSize, Found, Stray};
-use num::Order;
+use frame::{Ahead, BadSize, Stray};
+use num::{Numbered, Order};
 pub use part::body_of;
-use state::{State, Values};
+use state::State;
 
 // Where a reader stands: its place in the stream, whether it is in step or searching, and the channel state.
+// in_step is a flag and no Option: a searching cursor may carry a state, as crates/trials/src/cursors.rt gives.
 #[derive(Clone, Copy)]
 pub struct Cursor {
     pub place: usize,
@@ -33,7 +32,7 @@ pub struct Cursor {
 }
 
 // Why bytes were skipped: how the reader came to the place where they begin, and what stands there.
-#[derive(Clone, Copy)]
+#[derive(Clone, Copy, PartialEq, Eq)]
 pub enum Cause {
     // It came searching, as at the start.
     Searching,
@@ -46,6 +45,7 @@ pub enum Cause {
 }
 
 // What a step gives.
+// No Result: docs/CALLS.md has a step's refusals among its items, and a refused step gives a cursor too.
 #[derive(Clone, Copy)]
 pub enum Item {
     // Refused: the cursor's place is past the end. Number 2.
@@ -74,36 +74,23 @@ pub enum Item {
     },
 }
 
-impl Item {
-    // The number of the refusal, 2 or 3; of a chunk the number of its verdict; 0 for every other item.
-    pub fn number(self) -> u32
-        ensures { result ≡ item_number (item_said self) }
-    {
+impl Numbered for Item {
+    ghost number_of = { λ i. item_number (item_said i) };
+
+    // The number of the refusal, 2 or 3; of a chunk the number of its verdict, so a match; 0 for every other item.
+    fn number(self) -> u32 {
         match self {
             Item::PastEnd => 2,
             Item::BadState => 3,
-            Item::End => 0,
-            Item::Skipped {
-                place: _,
-                length: _,
-                cause: _,
-            } => 0,
-            Item::Unfinished {
-                place: _,
-                length: _,
-            } => 0,
-            Item::Chunk {
-                place: _,
-                code: _,
-                size: _,
-                verdict,
-            } => verdict.number(),
+            Item::End | Item::Skipped { .. } | Item::Unfinished { .. } => 0,
+            Item::Chunk { verdict, .. } => verdict.number(),
         }
     }
 }
 
 // What a step gives: the item; the state that a ready chunk shows, which is empty for every other item; and the cursor
 // for the next step.
+// `shown` is no Option: what shows nothing shows the empty state (`no_state`, crates/effect/specs/Ready.antt).
 #[derive(Clone, Copy)]
 pub struct Stepped {
     pub item: Item,
@@ -136,11 +123,10 @@ impl Cursor {
                 state: kept,
             };
         }
-        let none = State::empty(false);
         Cursor {
             place: to,
             in_step: true,
-            state: marked(none),
+            state: State::empty(true),
         }
     }
 
@@ -152,7 +138,8 @@ impl Cursor {
         self
     }
 
-    // The same cursor, its state rebuilt field by field, so that the compiler copies no padding.
+    // The same cursor, its state rebuilt field by field, so that the compiler copies no padding: measured, the figures
+    // stand in crates/state beside `Values::rebuilt`.
     fn rebuilt(self) -> Self
         ensures { result ≡ self }
     {
@@ -164,6 +151,7 @@ impl Cursor {
         }
     }
 
+    // No iterator over steps: a caller keeps the cursor, to copy at it or to go on from it (crates/follow).
     // Reads the item at the cursor and moves the cursor past it. Refused, with the cursor as it came: PastEnd, number
     // 2, where its place is past the end; BadState, number 3, where it is in step with a state that no chunks leave.
     // With no byte left the item is End. A cursor that came from `new` by steps is never refused.
@@ -182,7 +170,7 @@ impl Cursor {
         if s.len() < at {
             return still(Item::PastEnd, self);
         }
-        if self.in_step & !fit(self.state.values) {
+        if self.in_step & !self.state.values.is_good() {
             return still(Item::BadState, self);
         }
         match frame::ahead_of(order, s, at) {
@@ -196,28 +184,6 @@ impl Cursor {
             Ahead::Stretch(stray) => skip(order, s, self, stray),
         }
     }
-}
-
-// Whether a state may hold these values, which is the test behind number 3. It is asked in three calls, and each list is a
-// variable of its own, so that the compiler inlines the calls and copies no list.
-fn fit(values: Values) -> bool
-    ensures { result ≡ good_held values }
-{
-    let group = values.group;
-    let gains = values.gains;
-    let sums = values.sums;
-    let frequencies = values.frequencies;
-    values.good_values()
-        & state::good_lists(group, gains, values.total_gain, sums)
-        & state::good_frequencies(frequencies)
-}
-
-// The state, with the start mark set.
-fn marked(mut state: State) -> State
-    ensures { result ≡ with_mark state true }
-{
-    state.mark = true;
-    state
 }
 
 // An answer that shows nothing and leaves the cursor as it came.
@@ -290,10 +256,8 @@ fn cause_of(in_step: bool, stray: Stray) -> Cause
     }
     match stray {
         Stray::NoSync => Cause::NoSync,
-        Stray::Bad(size) => match size {
-            BadSize::Large => Cause::Large,
-            BadSize::Uneven => Cause::Uneven,
-        },
+        Stray::Bad(BadSize::Large) => Cause::Large,
+        Stray::Bad(BadSize::Uneven) => Cause::Uneven,
     }
 }
 
@@ -323,10 +287,7 @@ fn stop(order: Order, s: &[u8], from: usize) -> usize
     requires { from ≤ length s.now }
     ensures { (result ≡ from + gap order (drop from s.now)) × (result ≤ length s.now) }
 {
-    match frame::search(order, s, from) {
-        Found::Place(p) => p,
-        Found::Nothing => s.len(),
-    }
+    frame::search(order, s, from).unwrap_or(s.len())
 }
 
 // The place past the frame that stands at a place.
@@ -335,7 +296,7 @@ fn past(order: Order, s: &[u8], place: usize) -> usize
     ensures { result ≡ place + width (first order (drop place s.now)) }
 {
     match frame::ahead_of(order, s, place) {
-        Ahead::Chunk { code: _, size } => place + frame::HEADER + size,
+        Ahead::Chunk { size, .. } => place + frame::HEADER + size,
         Ahead::Cut => s.len(),
         Ahead::Stretch(_) => stop(order, s, place),
         Ahead::End => place,
@@ -348,6 +309,7 @@ pub fn count(order: Order, s: &[u8]) -> usize
 {
     let mut n = 0;
     let mut place = 0;
+    // What stands at a place says how far to go on, so no `for` has the places.
     while place < s.len() {
         place = past(order, s, place);
         n += 1;

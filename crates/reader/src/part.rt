@@ -9,19 +9,14 @@ use crate::Item;
 pub fn body_of(s: &[u8], item: Item) -> &[u8]
     ensures { result.now ≡ body_in s.now (item_said item) }
 {
-    let Item::Chunk {
-        place,
-        code: _,
-        size,
-        verdict: _,
-    } = item
-    else {
-        return &s[..0];
+    let Item::Chunk { place, size, .. } = item else {
+        return &[];
     };
     body_at(s, place, size)
 }
 
-// The body of a chunk of this size at a place. The sum of place and size is not made before it is known to fit.
+// The body of a chunk of this size at a place. The sum of place and size is not made before it is known to fit: they
+// come from an item, which may be of another stream.
 fn body_at(s: &[u8], place: usize, size: usize) -> &[u8]
     ensures { result.now ≡ body_at s.now place size }
 {

@@ -1,7 +1,7 @@
 -- Every answer of a step is given exactly when it is due.
 use Prim.Native.Nat.{ℕ, ◌+◌, ◌<◌}
 use mathlib.Core.Path.{◌≡◌, refl, ap, subst, sym, ◌∙◌}
-use mathlib.Core.Bool.{Bool, true, false, not}
+use mathlib.Core.Bool.{Bool, true, false}
 use mathlib.Core.List.{List}
 use mathlib.Core.Logic.{◌↔◌}
 use native.Mathlib.Omega.{arith}
@@ -11,8 +11,9 @@ use lib.ListN.{length, drop, length-drop}
 use lib.Seq.{drop-drop}
 use borrow.Author.Tests.{ltb-true, ltb-false, eqb-true, not-true}
 use Rattle.num.specs.Answer.{Answer, gives, refuses}
-use Rattle.num.specs.Choice.{pick, both}
+use Rattle.num.specs.Choice.{pick}
 use Rattle.num.specs.declared.Order.{Order}
+use Rattle.num.proofs.Tests.{both-true}
 use Rattle.frame.specs.Place.{stops, gap}
 use Rattle.frame.specs.Ahead.{ahead_by, ahead_of}
 use Rattle.frame.specs.declared.At.{At}
@@ -33,10 +34,6 @@ use Rattle.reader.proofs.Laws.{step-past, step-unfit, step-ahead, step-end, step
 use Rattle.reading.specs.Due.{shows_at, PastEndDue, BadStateDue, CauseDue, SkippedDue, UnfinishedDue, ChunkDue, Due}
 use Rattle.reading.specs.Ends.{Sound}
 use Rattle.reading.proofs.Stretch.{stop-within, reaches-within, stretch, stretch-only}
-
-both-true : (a b : Bool) → both a (not b) ≡ true → (a ≡ true) × (b ≡ false)
-both-true true b e = (refl, not-true b e)
-both-true false b e = let z : ◌≡◌ {A = ℕ} 0 1 = cc in absurd (omega arith)
 
 -- the cause of a stretch is due, and no other is
 cause-due : (a : At) (stray : Stray) (step : Bool) → ahead_by a ≡ Stretch stray → CauseDue step a (cause_of step stray)
@@ -94,7 +91,7 @@ module _ (o : Order) (s : List ℕ) (c : Cursor) where
   sorted false true e k =
       let l = ltb-false (length s) c.place e in
       let w = both-true c.in_step _ k in
-      rw (step-unfit o s c l k) (record { within = l; step = w.0; state = w.1 })
+      rw (step-unfit o s c l k) (record { within = l; step = w.0; state = not-true _ w.1 })
   sorted false false e k =
       let l = ltb-false (length s) c.place e in
       rw (step-ahead o s c l k) (due-by (record { within = l; fit = k }) (ahead_of o (drop c.place s)) refl)

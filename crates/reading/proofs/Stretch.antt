@@ -9,9 +9,9 @@ use native.Mathlib.Nat.{add-zero, lt_of_not-le}
 use lib.Dec.{ltb}
 use lib.ListN.{length, drop, length-drop}
 use borrow.Author.Tests.{ltb-false}
+use Rattle.std.specs.Prelude.{None}
 use Rattle.num.specs.declared.Order.{Order}
 use Rattle.frame.specs.Place.{stops, gap, search_from}
-use Rattle.frame.specs.declared.Found.TheVariants.{Nothing}
 use Rattle.frame.proofs.Laws.{gap-step, gap-stop, shows-end}
 use Rattle.frame.proofs.Frames.{gap-le}
 use Rattle.frame.proofs.Theorems.{search-stopped, search-nothing}
@@ -57,7 +57,7 @@ module _ (o : Order) (s : List ℕ) where
       let w = search-stopped o s p (p + gap o (drop p s)) (rw e) in
       (λ k i j. w.before k i j, inr w.here)
   stretch-by p false l e =
-      let n : search_from o s p ≡ Nothing = rw e in
+      let n : search_from o s p ≡ None = rw e in
       let q : p + gap o (drop p s) ≡ length s = omega (arith, ltb-false (p + gap o (drop p s)) (length s) e, gap-le o (drop p s), length-drop p s) in
       (λ k i j. search-nothing o s p k n i (omega arith), inl q)
 

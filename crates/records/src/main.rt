@@ -4,38 +4,30 @@
 use num::Order;
 use show::print;
 use std::io;
-use writer::Written;
+use writer::Unwritten;
 
 fn main(rt: HostRuntime) -> io::Result<()> {
     let mut out = [0u8; 256];
-    let end = records(&rt, Order::Big, &mut out)?;
-    read_back(&rt, &out, end)
-}
-
-// Exactly the bytes that were written.
-fn read_back(rt: &impl Print, s: &[u8], end: usize) -> io::Result<()> {
-    if end <= s.len() {
-        show::dump(rt, &s[..end])?;
+    let written = records(Order::Big, &mut out);
+    match written {
+        // Exactly the bytes that were written.
+        Ok(end) => show::dump(&rt, out.get(..end).unwrap_or(&[])),
+        Err(_) => refused(&rt, written),
     }
-    Ok(())
 }
 
-// Four records, each at the place that the call before it gave.
-fn records(rt: &impl Print, order: Order, out: &mut [u8]) -> io::Result<usize> {
-    let a = next(rt, typed::siqp(order, 1, out, 0), 0)?;
-    let b = next(rt, typed::sr(order, 48_000_000_000, out, a), a)?;
-    let c = next(rt, typed::cf(order, 98_500_000_000_000, out, b), b)?;
+// Four records, each at the place that the call before it gave. `?` hands on why a call was refused.
+fn records(order: Order, out: &mut [u8]) -> Result<usize, Unwritten> {
+    let a = typed::siqp(order, 1, out, 0)?;
+    let b = typed::sr(order, 48_000_000_000, out, a)?;
+    let c = typed::cf(order, 98_500_000_000_000, out, b)?;
     let time = 1_700_000_000_000_000_000;
     let pairs = [1000, -1000, 2000, -2000];
-    next(rt, writer::ssnc(order, time, &pairs, out, c), c)
+    writer::ssnc(order, time, &pairs, out, c)
 }
 
-// Where the next record goes. A refused call has written nothing: it says why, and the place is as it was.
-fn next(rt: &impl Print, written: Written, place: usize) -> io::Result<usize> {
-    if let Written::Next(to) = written {
-        return Ok(to);
-    }
+// Why a record was not written.
+fn refused(rt: &impl Print, written: Result<usize, Unwritten>) -> io::Result<()> {
     print(rt, answers::written(written))?;
-    print(rt, listing::newline())?;
-    Ok(place)
+    print(rt, listing::newline())
 }

@@ -23,7 +23,8 @@ use Rattle.reader.proofs.Cursor.step.Reads as step
 use Rattle.reader.proofs.Laws.{item-by, other-item}
 use Rattle.samples.specs.Copy.{copied_said, layout_in, layout_by, layout_at, count_of, samples_by, samples_at, filled}
 use Rattle.samples.specs.Given.{is_there, layout_there, layout_given, count_given, place_given, samples_given}
-use Rattle.samples.specs.declared.Copied.{Copied}
+use Rattle.samples.specs.declared.Uncopied.{Uncopied}
+use Rattle.std.specs.Prelude.{Result}
 use Rattle.samples.proofs.Again.{ready-again}
 use Rattle.samples.proofs.AtCursor.{stands}
 use Rattle.samples.proofs.There.{own-data, own-that, pick-same}
@@ -104,7 +105,7 @@ module _ (o : Order) (s : List ℕ) (c : Cursor) (t : Stepped) (i : Item) (e : (
 
 -- ---- said of the promises: whatever the calls answer, as long as each meets its promise
 
-same-copy : {A : Type 0} {o : Order} {s : List ℕ} {c : Cursor} {t : Stepped} (float : Bool) (value : List ℕ → ℕ → A) (channel : ℕ) (out : List A) (r r' : Copied) (x x' : List A) →
+same-copy : {A : Type 0} {o : Order} {s : List ℕ} {c : Cursor} {t : Stepped} (float : Bool) (value : List ℕ → ℕ → A) (channel : ℕ) (out : List A) (r r' : Result ℕ Uncopied) (x x' : List A) →
     AsAtCursor o s c t →
     (copied_said r ≡ count_of float o s c channel (length out)) × (x ≡ filled (count_of float o s c channel (length out)) (layout_at float o s c channel) (value (samples_at o s c)) out) →
     (copied_said r' ≡ count_given float o s t channel (length out)) × (x' ≡ filled (count_given float o s t channel (length out)) (layout_given float o s t channel) (value (samples_given s t)) out) →
@@ -113,7 +114,7 @@ same-copy float value channel out r r' x x' h p q =
     (copied-told r r' (p.0 ∙ sym (h.count float channel (length out)) ∙ sym q.0), p.1 ∙ sym (h.left value float channel (length out) out) ∙ sym q.1)
 
 -- a step that gave an item, a copy at its cursor and a copy of what it gave, from slices that hold the same: equal answers, and equal slices at the end
-module _ (κ : Lfts 1) (κ' κ'' : Lfts 2) (o : Order) (s s' s'' : Bor (List ℕ)) (c : Cursor) (t : Stepped) (end : _) (i : Item) (channel : ℕ) (r r' : Copied)
+module _ (κ : Lfts 1) (κ' κ'' : Lfts 2) (o : Order) (s s' s'' : Bor (List ℕ)) (c : Cursor) (t : Stepped) (end : _) (i : Item) (channel : ℕ) (r r' : Result ℕ Uncopied)
     (made : step.Post κ (c, (o, (s, tt))) t end) (gave : item_said t.item ≡ gives i) (same : s'.now ≡ s.now) (alike : s''.now ≡ s.now) where
   stepped-as : AsAtCursor o s.now c t
   stepped-as = given-as-at-cursor o s.now c t i (sym made.item ∙ gave) made

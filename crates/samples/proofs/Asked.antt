@@ -13,8 +13,8 @@ use Rattle.body.specs.Table as Table
 use Rattle.body.specs.declared.sampled.Data.{Data}
 use Rattle.body.specs.declared.sampled.Shape.{Shape}
 use Rattle.body.specs.declared.sampled.Shape.TheVariants.{ShortPairs, ShortReals, ShortGroup, FloatPairs, FloatReals, FloatGroup}
-use Rattle.body.specs.declared.sampled.Shaped.{Shaped}
-use Rattle.body.specs.declared.sampled.Shaped.TheVariants.{Samples, NoSamples}
+use Rattle.std.specs.Prelude.{Option, Some, None}
+use Rattle.body.specs.declared.sampled.Shape.{Shape}
 use Rattle.body.specs.declared.groups.GroupPacking.{GroupPacking}
 use Rattle.body.specs.declared.kinds.Kind.{Kind}
 use Rattle.effect.specs.Says.{Says, ok, unknown, bad, waits, ready}
@@ -36,15 +36,15 @@ data-ready (waits n t) d e = let z : ◌≡◌ {A = ℕ} 0 1 = cc in absurd (ome
 data-ready (ready x) d e = let i : d ≡ x = cc in ap ready (sym i)
 
 -- samples lie by the packing and the group alone
-layout-by : (float : Bool) (shape : Shaped) (channel : ℕ) (x y : State) (d : Data) → x.values.packing ≡ y.values.packing → x.values.group ≡ y.values.group →
+layout-by : (float : Bool) (shape : Option Shape) (channel : ℕ) (x y : State) (d : Data) → x.values.packing ≡ y.values.packing → x.values.group ≡ y.values.group →
     layout float shape channel x d ≡ layout float shape channel y d
-layout-by float (Samples ShortPairs) channel x y d p g = rw p
-layout-by float (Samples ShortReals) channel x y d p g = refl
-layout-by float (Samples ShortGroup) channel x y d p g = rw g
-layout-by float (Samples FloatPairs) channel x y d p g = rw p
-layout-by float (Samples FloatReals) channel x y d p g = refl
-layout-by float (Samples FloatGroup) channel x y d p g = rw g
-layout-by float NoSamples channel x y d p g = refl
+layout-by float (Some ShortPairs) channel x y d p g = rw p
+layout-by float (Some ShortReals) channel x y d p g = refl
+layout-by float (Some ShortGroup) channel x y d p g = rw g
+layout-by float (Some FloatPairs) channel x y d p g = rw p
+layout-by float (Some FloatReals) channel x y d p g = refl
+layout-by float (Some FloatGroup) channel x y d p g = rw g
+layout-by float None channel x y d p g = refl
 
 -- data that is given to copy lies as the state says that the chunk came to
 pub given-lies : (o : Order) (code : ℕ) (body : List ℕ) (s : State) (float : Bool) (channel : ℕ) (d : Data) →

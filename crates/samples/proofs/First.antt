@@ -14,7 +14,7 @@ use Rattle.samples.specs.Copy.{layout_at, count_within, count_of, samples_at, fi
 use Rattle.samples.specs.Given.{layout_given, count_given, samples_given}
 use Rattle.samples.specs.Layout.{numbers, values_of}
 use Rattle.samples.specs.declared.Layout.{Layout}
-use Rattle.samples.specs.declared.Copied.TheVariants.{Count}
+use Rattle.std.specs.Prelude.{Ok}
 use Rattle.samples.proofs.patterns.patterns_at.Reads as patterns_at
 use Rattle.samples.proofs.patterns.patterns_of.Reads as patterns_of
 use Rattle.samples.proofs.shorts.shorts_at.Reads as shorts_at
@@ -59,25 +59,25 @@ module _ {A : Type 0} (value : ℕ → A) (n : ℕ) (was is : List A) where
 
 -- ---- said of each call's promise
 
-pub shorts-at-first : (κs : _) (a : _) (n : ℕ) (x : _) → shorts_at.Post κs a (Count n) x →
+pub shorts-at-first : (κs : _) (a : _) (n : ℕ) (x : _) → shorts_at.Post κs a (Ok n) x →
     FirstNumbers (layout_at false a.0 a.1.0.now a.1.1.0 a.1.1.1.0) (short_at a.0 (samples_at a.0 a.1.0.now a.1.1.0)) n a.1.1.1.1.0.now x.1.1.1.1.0.now
 unfolding count_of
 shorts-at-first κs a n x p =
     first-numbers (short_at a.0 (samples_at a.0 a.1.0.now a.1.1.0)) n a.1.1.1.1.0.now x.1.1.1.1.0.now (layout_at false a.0 a.1.0.now a.1.1.0 a.1.1.1.0) p.0 p.1
 
-pub patterns-at-first : (κs : _) (a : _) (n : ℕ) (x : _) → patterns_at.Post κs a (Count n) x →
+pub patterns-at-first : (κs : _) (a : _) (n : ℕ) (x : _) → patterns_at.Post κs a (Ok n) x →
     FirstNumbers (layout_at true a.0 a.1.0.now a.1.1.0 a.1.1.1.0) (pattern_at a.0 (samples_at a.0 a.1.0.now a.1.1.0)) n a.1.1.1.1.0.now x.1.1.1.1.0.now
 unfolding count_of
 patterns-at-first κs a n x p =
     first-numbers (pattern_at a.0 (samples_at a.0 a.1.0.now a.1.1.0)) n a.1.1.1.1.0.now x.1.1.1.1.0.now (layout_at true a.0 a.1.0.now a.1.1.0 a.1.1.1.0) p.0 p.1
 
-pub shorts-of-first : (κs : _) (a : _) (n : ℕ) (x : _) → shorts_of.Post κs a (Count n) x →
+pub shorts-of-first : (κs : _) (a : _) (n : ℕ) (x : _) → shorts_of.Post κs a (Ok n) x →
     FirstNumbers (layout_given false a.0 a.1.0.now a.1.1.0 a.1.1.1.0) (short_at a.0 (samples_given a.1.0.now a.1.1.0)) n a.1.1.1.1.0.now x.1.1.1.1.0.now
 unfolding count_given
 shorts-of-first κs a n x p =
     first-numbers (short_at a.0 (samples_given a.1.0.now a.1.1.0)) n a.1.1.1.1.0.now x.1.1.1.1.0.now (layout_given false a.0 a.1.0.now a.1.1.0 a.1.1.1.0) p.0 p.1
 
-pub patterns-of-first : (κs : _) (a : _) (n : ℕ) (x : _) → patterns_of.Post κs a (Count n) x →
+pub patterns-of-first : (κs : _) (a : _) (n : ℕ) (x : _) → patterns_of.Post κs a (Ok n) x →
     FirstNumbers (layout_given true a.0 a.1.0.now a.1.1.0 a.1.1.1.0) (pattern_at a.0 (samples_given a.1.0.now a.1.1.0)) n a.1.1.1.1.0.now x.1.1.1.1.0.now
 unfolding count_given
 patterns-of-first κs a n x p =

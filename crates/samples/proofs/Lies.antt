@@ -19,8 +19,8 @@ use Rattle.samples.specs.Inner.Plan.{number_bytes, lies}
 use Rattle.samples.specs.Layout.{alone, paired, real, member, one_of, layout}
 use Rattle.samples.specs.declared.Layout.{Layout}
 use Rattle.body.specs.declared.sampled.Shape.TheVariants.{ShortPairs, ShortReals, ShortGroup, FloatPairs, FloatReals, FloatGroup}
-use Rattle.body.specs.declared.sampled.Shaped.{Shaped}
-use Rattle.body.specs.declared.sampled.Shaped.TheVariants.{Samples, NoSamples}
+use Rattle.std.specs.Prelude.{Option, Some, None}
+use Rattle.body.specs.declared.sampled.Shape.{Shape}
 use Rattle.samples.proofs.Ready.{IsReady, Covered}
 
 inside-of : (w size place samples : ℕ) → size ≡ samples * (2 * w) → place < samples → inside w size place ≡ true
@@ -43,23 +43,23 @@ module _ (channel : ℕ) (body : List ℕ) (s : State) (d : Data) (l : Layout) w
       let h = alone-gives channel (eqb channel 0) (real d) l e in
       rw (← h.1) (le-leb (d.samples * w) (length body - 8) (omega arith))
 
-  group-lies : (w : ℕ) → length body ≡ 8 + d.samples * (2 * w) → Covered (Samples ShortGroup) d s.values.group → one_of channel s d ≡ gives l → lies w (length body - 8) l ≡ true
+  group-lies : (w : ℕ) → length body ≡ 8 + d.samples * (2 * w) → Covered (Some ShortGroup) d s.values.group → one_of channel s d ≡ gives l → lies w (length body - 8) l ≡ true
   group-lies w n k e =
       let h = alone-gives channel (ltb channel s.values.group.n) (member channel s d) l e in
       let g = group-says d.samples s.values.group.n s.values.group.increment s.values.group.offsets k in
       rw (← h.1) (each-all (λ (j : ℕ). inside w (length body - 8) (place_of (get_or s.values.group.offsets channel 0) s.values.group.increment j)) (d.samples / s.values.group.n) (λ j q. inside-of w (length body - 8) (place_of (get_or s.values.group.offsets channel 0) s.values.group.increment j) d.samples (omega arith) (g.cover.each.inside channel j (ltb-true channel s.values.group.n h.0) q)))
 
-  pub layout-lies : {was : State} (float : Bool) (shaped : Shaped) → IsReady shaped body d was s → layout float shaped channel s d ≡ gives l → lies (number_bytes float) (length body - 8) l ≡ true
-  layout-lies false (Samples ShortPairs) r e = pairs-lie 2 r.size e
-  layout-lies false (Samples ShortReals) r e = reals-lie 2 r.size e
-  layout-lies false (Samples ShortGroup) r e = group-lies 2 r.size r.cover e
-  layout-lies true (Samples FloatPairs) r e = pairs-lie 4 r.size e
-  layout-lies true (Samples FloatReals) r e = reals-lie 4 r.size e
-  layout-lies true (Samples FloatGroup) r e = group-lies 4 r.size r.cover e
-  layout-lies true (Samples ShortPairs) r e = let z : ◌≡◌ {A = ℕ} 0 1 = cc in absurd (omega arith)
-  layout-lies true (Samples ShortReals) r e = let z : ◌≡◌ {A = ℕ} 0 1 = cc in absurd (omega arith)
-  layout-lies true (Samples ShortGroup) r e = let z : ◌≡◌ {A = ℕ} 0 1 = cc in absurd (omega arith)
-  layout-lies false (Samples FloatPairs) r e = let z : ◌≡◌ {A = ℕ} 0 1 = cc in absurd (omega arith)
-  layout-lies false (Samples FloatReals) r e = let z : ◌≡◌ {A = ℕ} 0 1 = cc in absurd (omega arith)
-  layout-lies false (Samples FloatGroup) r e = let z : ◌≡◌ {A = ℕ} 0 1 = cc in absurd (omega arith)
-  layout-lies float NoSamples r e = let z : ◌≡◌ {A = ℕ} 0 1 = cc in absurd (omega arith)
+  pub layout-lies : {was : State} (float : Bool) (shaped : Option Shape) → IsReady shaped body d was s → layout float shaped channel s d ≡ gives l → lies (number_bytes float) (length body - 8) l ≡ true
+  layout-lies false (Some ShortPairs) r e = pairs-lie 2 r.size e
+  layout-lies false (Some ShortReals) r e = reals-lie 2 r.size e
+  layout-lies false (Some ShortGroup) r e = group-lies 2 r.size r.cover e
+  layout-lies true (Some FloatPairs) r e = pairs-lie 4 r.size e
+  layout-lies true (Some FloatReals) r e = reals-lie 4 r.size e
+  layout-lies true (Some FloatGroup) r e = group-lies 4 r.size r.cover e
+  layout-lies true (Some ShortPairs) r e = let z : ◌≡◌ {A = ℕ} 0 1 = cc in absurd (omega arith)
+  layout-lies true (Some ShortReals) r e = let z : ◌≡◌ {A = ℕ} 0 1 = cc in absurd (omega arith)
+  layout-lies true (Some ShortGroup) r e = let z : ◌≡◌ {A = ℕ} 0 1 = cc in absurd (omega arith)
+  layout-lies false (Some FloatPairs) r e = let z : ◌≡◌ {A = ℕ} 0 1 = cc in absurd (omega arith)
+  layout-lies false (Some FloatReals) r e = let z : ◌≡◌ {A = ℕ} 0 1 = cc in absurd (omega arith)
+  layout-lies false (Some FloatGroup) r e = let z : ◌≡◌ {A = ℕ} 0 1 = cc in absurd (omega arith)
+  layout-lies float None r e = let z : ◌≡◌ {A = ℕ} 0 1 = cc in absurd (omega arith)

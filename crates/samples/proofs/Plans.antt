@@ -6,6 +6,7 @@ use mathlib.Core.List.{List}
 use native.Mathlib.Omega.{arith}
 use lib.ListN.{length, take, drop, length-drop}
 use lib.Seq.{drop-drop, length-take-le}
+use Rattle.std.specs.Prelude.{Result, Ok, Err}
 use Rattle.num.specs.Answer.{Answer, gives, refuses}
 use Rattle.num.specs.declared.Order.{Order}
 use Rattle.frame.specs.Ahead.{is_chunk}
@@ -26,8 +27,8 @@ use Rattle.samples.specs.Layout.{layout}
 use Rattle.samples.specs.Copy.{layout_in, layout_by}
 use Rattle.samples.specs.Inner.Plan.{number_bytes, lies, Plans, Tells, Sound}
 use Rattle.samples.specs.declared.Layout.{Layout}
-use Rattle.samples.specs.declared.Planned.{Planned}
-use Rattle.samples.specs.declared.Planned.TheVariants.{Go, Refused}
+use Rattle.samples.specs.declared.Plan.{Plan}
+use Rattle.samples.specs.declared.Uncopied.{Uncopied}
 use Rattle.samples.proofs.Asked.{data-ready, given-lies, none-lies, searching}
 use Rattle.samples.proofs.AtCursor.{effect_in, stands}
 use Rattle.samples.proofs.Lies.{layout-lies}
@@ -81,16 +82,16 @@ module _ (o : Order) (s : List ℕ) (at code size : ℕ) (state : State) (fits :
         omega (arith, body-size)
 
     -- what is planned for it tells where its samples lie
-    pub plan-tells : (float : Bool) (channel : ℕ) (p : Planned) (a : Answer Layout) (samples : List ℕ) → Plans (layout float (shaped (kind_of code)) channel state d) at size p →
+    pub plan-tells : (float : Bool) (channel : ℕ) (p : Result Plan Uncopied) (a : Answer Layout) (samples : List ℕ) → Plans (layout float (shaped (kind_of code)) channel state d) at size p →
         layout float (shaped (kind_of code)) channel state d ≡ a → samples ≡ take (size - 8) (drop 20 (drop at s)) →
         Tells s a samples p × Sound (number_bytes float) s p
-    plan-tells float channel (Go l from to) a samples p e q =
-        let n : to - from ≡ size - 8 = omega (arith, p.1, p.2, has-time) in
+    plan-tells float channel (Ok plan) a samples p e q =
+        let n : plan.to - plan.from ≡ size - 8 = omega (arith, p.1, p.2, has-time) in
         let k = sym (given-lies o code (take size (drop 12 (drop at s))) state float channel d r) ∙ p.0 in (
           (sym e ∙ p.0, q ∙ rw (n, p.1, drop-drop 20 at s)),
-          (omega (arith, p.1, p.2, has-time), omega (arith, p.2), rw n (chunk-lies float channel l k)),
+          (omega (arith, p.1, p.2, has-time), omega (arith, p.2), rw n (chunk-lies float channel plan.layout k)),
         )
-    plan-tells float channel (Refused why) a samples p e q = ((p.0, sym e ∙ p.1, p.2), tt)
+    plan-tells float channel (Err why) a samples p e q = (sym e ∙ p, tt)
 
 -- and those of the chunk that a step gives
 pub step-lies : (float : Bool) (o : Order) (s : List ℕ) (c : Cursor) (channel p code size : ℕ) (says : Says) → (step_of o s c).item ≡ gives (chunk p code size says) →

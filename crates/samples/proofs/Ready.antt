@@ -17,8 +17,8 @@ use Rattle.body.specs.Table as Table
 use Rattle.body.specs.declared.sampled.Data.{Data}
 use Rattle.body.specs.declared.sampled.Shape.{Shape}
 use Rattle.body.specs.declared.sampled.Shape.TheVariants.{ShortPairs, ShortReals, ShortGroup, FloatPairs, FloatReals, FloatGroup}
-use Rattle.body.specs.declared.sampled.Shaped.{Shaped}
-use Rattle.body.specs.declared.sampled.Shaped.TheVariants.{Samples, NoSamples}
+use Rattle.std.specs.Prelude.{Option, Some, None}
+use Rattle.body.specs.declared.sampled.Shape.{Shape}
 use Rattle.body.specs.declared.groups.GroupPacking.{GroupPacking}
 use Rattle.body.specs.declared.kinds.Kind.{Kind}
 use Rattle.cover.specs.Cover.{group_covers}
@@ -29,17 +29,17 @@ use Rattle.state.specs.State.{with_values}
 use Rattle.state.specs.declared.State.{State}
 
 -- how many bytes a sample takes
-abbrev pub bytes_in : Shaped → ℕ
-bytes_in (Samples shape) = sample_bytes shape
-bytes_in NoSamples = 1
+abbrev pub bytes_in : Option Shape → ℕ
+bytes_in (Some shape) = sample_bytes shape
+bytes_in None = 1
 
 -- a group covers its pairs
-abbrev pub Covered : Shaped → Data → GroupPacking → Type 0
-Covered (Samples shape) d g = pick (of_group shape) (group_covers d.samples g.n g.increment g.offsets ≡ true) (Unit {0})
-Covered NoSamples d g = Unit {0}
+abbrev pub Covered : Option Shape → Data → GroupPacking → Type 0
+Covered (Some shape) d g = pick (of_group shape) (group_covers d.samples g.n g.increment g.offsets ≡ true) (Unit {0})
+Covered None d g = Unit {0}
 
 -- in state s, with what is shown
-pub record IsReady (shaped : Shaped) (body : List ℕ) (d : Data) (s shown : State) : Type 0 where
+pub record IsReady (shaped : Option Shape) (body : List ℕ) (d : Data) (s shown : State) : Type 0 where
   pub size : length body ≡ 8 + d.samples * bytes_in shaped
   pub cover : Covered shaped d shown.values.group
   pub packing : shown.values.packing ≡ s.values.packing
@@ -92,21 +92,21 @@ pub shown-by : (s : Says) (d : Data) (x : State) → s ≡ ready d → pick (is_
 shown-by s d x e = rw e
 
 module _ (o : Order) (body : List ℕ) (s : State) (d : Data) where
-  single-ready : (shape : Shape) (a : Answer Data) (p r t : Bool) → (a ≡ gives d → length body ≡ 8 + d.samples * sample_bytes shape) → Covered (Samples shape) d s.values.group →
+  single-ready : (shape : Shape) (a : Answer Data) (p r t : Bool) → (a ≡ gives d → length body ≡ 8 + d.samples * sample_bytes shape) → Covered (Some shape) d s.values.group →
       let y : Says = data_says a p r t in
-      y ≡ ready d → IsReady (Samples shape) body d s (pick (is_ready y) s no_state)
+      y ≡ ready d → IsReady (Some shape) body d s (pick (is_ready y) s no_state)
   single-ready shape a p r t q k e = rw (shown-by (data_says a p r t) d s e) (record { size = q (says-by a p r t d e); cover = k; packing = refl; group = refl })
 
   group-ready : (shape : Shape) (a : Answer Data) (p r t : Bool) → (a ≡ gives d → length body ≡ 8 + d.samples * sample_bytes shape) →
-      (group_covers d.samples s.values.group.n s.values.group.increment s.values.group.offsets ≡ true → Covered (Samples shape) d s.values.group) →
+      (group_covers d.samples s.values.group.n s.values.group.increment s.values.group.offsets ≡ true → Covered (Some shape) d s.values.group) →
       let y : Says = covering s.values.group (data_says a p r t) in
-      y ≡ ready d → IsReady (Samples shape) body d s (pick (is_ready y) (with_values s (in_group s.values)) no_state)
+      y ≡ ready d → IsReady (Some shape) body d s (pick (is_ready y) (with_values s (in_group s.values)) no_state)
   group-ready shape a p r t q k e =
       let h = covering-by s.values.group (data_says a p r t) d e in
       rw (shown-by (covering s.values.group (data_says a p r t)) d (with_values s (in_group s.values)) e) (record { size = q (says-by a p r t d h.1); cover = k h.0; packing = refl; group = refl })
 
   shape-ready : (shape : Shape) (a : Answer Data) → (a ≡ gives d → length body ≡ 8 + d.samples * sample_bytes shape) →
-      (sampled shape a s).says ≡ ready d → IsReady (Samples shape) body d s (sampled shape a s).shown
+      (sampled shape a s).says ≡ ready d → IsReady (Some shape) body d s (sampled shape a s).shown
   shape-ready ShortPairs a q e = single-ready ShortPairs a s.values.packing.present s.values.rate.present true q tt e
   shape-ready ShortReals a q e = single-ready ShortReals a true s.values.rate.present true q tt e
   shape-ready ShortGroup a q e = group-ready ShortGroup a (ltb 0 s.values.group.n) s.values.rate.present true q (λ h. h) e

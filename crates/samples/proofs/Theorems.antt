@@ -5,6 +5,7 @@ use mathlib.Core.Bool.{Bool}
 use mathlib.Core.List.{List}
 use borrow.Author.Tests.{le-leb}
 use lib.Dec.{eqb}
+use Rattle.std.specs.Prelude.{Result, Ok, Err}
 use Rattle.num.specs.Answer.{Answer, gives, refuses}
 use Rattle.num.specs.Choice.{pick}
 use Rattle.num.specs.declared.Order.{Order}
@@ -12,29 +13,29 @@ use Rattle.reader.specs.declared.Cursor.{Cursor}
 use Rattle.samples.specs.Copy.{copied_said, layout_at, count_of}
 use Rattle.samples.specs.Layout.{numbers}
 use Rattle.samples.specs.declared.Layout.{Layout}
-use Rattle.samples.specs.declared.Copied.{Copied}
-use Rattle.samples.specs.declared.Copied.TheVariants.{Count, PastEnd, BadState, NotReady, NoChannel, TooShort}
+use Rattle.samples.specs.declared.Uncopied.{Uncopied}
+use Rattle.samples.specs.declared.Uncopied.TheVariants.{PastEnd, BadState, NotReady, NoChannel, TooShort}
 
--- the case that says an answer
-unsaid : Answer ℕ → Copied
-unsaid (gives n) = Count n
+-- the result that says an answer
+unsaid : Answer ℕ → Result ℕ Uncopied
+unsaid (gives n) = Ok n
 unsaid (refuses n) =
-    pick (eqb n 2) PastEnd
+    Err (pick (eqb n 2) PastEnd
     (pick (eqb n 3) BadState
     (pick (eqb n 35) NotReady
     (pick (eqb n 34) NoChannel
-    TooShort)))
+    TooShort))))
 
-unsaid-said : (a : Copied) → unsaid (copied_said a) ≡ a
+unsaid-said : (a : Result ℕ Uncopied) → unsaid (copied_said a) ≡ a
 unfolding unsaid
-unsaid-said (Count n) = refl
-unsaid-said PastEnd = refl
-unsaid-said BadState = refl
-unsaid-said NotReady = refl
-unsaid-said NoChannel = refl
-unsaid-said TooShort = refl
+unsaid-said (Ok n) = refl
+unsaid-said (Err PastEnd) = refl
+unsaid-said (Err BadState) = refl
+unsaid-said (Err NotReady) = refl
+unsaid-said (Err NoChannel) = refl
+unsaid-said (Err TooShort) = refl
 
-pub copied-told : (a b : Copied) → copied_said a ≡ copied_said b → a ≡ b
+pub copied-told : (a b : Result ℕ Uncopied) → copied_said a ≡ copied_said b → a ≡ b
 copied-told a b e = sym (unsaid-said a) ∙ ap unsaid e ∙ unsaid-said b
 
 -- where a layout is given and the slice has room, its numbers are counted

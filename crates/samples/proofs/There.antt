@@ -1,15 +1,15 @@
 -- The chunk that a step gave, looked for in the stream.
 use Prim.Native.Nat.{ℕ}
 use mathlib.Core.Path.{◌≡◌, refl, sym, ap, ◌∙◌}
-use mathlib.Core.Bool.{Bool, true, false}
+use mathlib.Core.Bool.{Bool, true, false, ◌&&◌}
+use Rattle.std.proofs.Common.{int_eq}
+use Rattle.std.proofs.lemmas.Bool.Decides.{Decides-int_eq}
 use mathlib.Core.List.{List}
 use native.Mathlib.Omega.{arith}
 use lib.Dec.{eqb}
 use lib.IntN.{ℤ, pos, negsuc}
 use lib.ListN.{drop}
-use mir.Syntax.{w64}
-use mir.Val.{to_z, of_z}
-use borrow.Author.Tests.{eqb-true, eq-eqb, ne_eqb}
+use borrow.Author.Tests.{eqb-true, eq-eqb}
 use Rattle.num.specs.Answer.{gives, refuses}
 use Rattle.num.specs.Choice.{pick, both}
 use Rattle.num.specs.declared.Order.{Order}
@@ -39,17 +39,24 @@ own-time : (a : ℤ) → same_time a a ≡ true
 own-time (pos m) = eq-eqb m m refl
 own-time (negsuc m) = eq-eqb m m refl
 
-time-by : (a b : ℤ) (t : Bool) → same_time a b ≡ t → to_z w64 (of_z w64 a) ≡ a → to_z w64 (of_z w64 b) ≡ b → eqb (of_z w64 a) (of_z w64 b) ≡ t
-time-by a b true e p q = eq-eqb (of_z w64 a) (of_z w64 b) (ap (of_z w64) (same-time a b e))
-time-by a b false e p q =
-    ne_eqb (of_z w64 a) (of_z w64 b) (λ h.
-    let i : a ≡ b = sym p ∙ ap (to_z w64) h ∙ q in
-    let k : same_time a b ≡ true = rw i (own-time b) in
-    let z : ◌≡◌ {A = ℕ} 0 1 = cc in absurd (omega arith))
+-- and the derived equality of data is that test
+by-truth : (p q : Bool) → (p ≡ true → q ≡ true) → (q ≡ true → p ≡ true) → p ≡ q
+by-truth true q f g = sym (f refl)
+by-truth false true f g = g refl
+by-truth false false f g = refl
 
--- times are equal where their patterns are
-pub time-pattern : (a b : ℤ) → to_z w64 (of_z w64 a) ≡ a → to_z w64 (of_z w64 b) ≡ b → eqb (of_z w64 a) (of_z w64 b) ≡ same_time a b
-time-pattern a b p q = time-by a b (same_time a b) refl p q
+same-times : (x y : ℤ) → int_eq x y ≡ same_time x y
+same-times x y =
+    by-truth (int_eq x y) (same_time x y)
+    (λ e. let q : x ≡ y = (Decides-int_eq x y).0 e in rw q (own-time y))
+    (λ e. (Decides-int_eq x y).1 (same-time x y e))
+
+both-and : (p q : Bool) → (p && q) ≡ both p q
+both-and true q = refl
+both-and false q = refl
+
+pub same-derived : (a b : Data) → (int_eq a.time b.time && eqb a.samples b.samples) ≡ same_data a b
+same-derived a b = both-and (int_eq a.time b.time) (eqb a.samples b.samples) ∙ rw (same-times a.time b.time) refl
 
 pub same-data : (a b : Data) → same_data a b ≡ true → a ≡ b
 same-data a b e =

@@ -1,6 +1,6 @@
 -- Samples of one channel, copied out of the chunk at a cursor.
-use Rattle.std.specs.Prelude.{ℕ, ◌-◌, Bool, List, [], leb, take, drop}
-use Rattle.num.specs.Answer.{Answer, gives, refuses, Reply, reply_with, then}
+use Rattle.std.specs.Prelude.{ℕ, ◌-◌, Bool, List, [], leb, take, drop, Result}
+use Rattle.num.specs.Answer.{Answer, gives, refuses, answered, Reply, reply_with, then}
 use Rattle.num.specs.Choice.{pick}
 use Rattle.num.specs.declared.Order.{Order}
 use Rattle.frame.specs.Place.{front_size}
@@ -14,21 +14,24 @@ use Rattle.reader.specs.declared.Cursor.{Cursor}
 use Rattle.state.specs.declared.State.{State}
 use Rattle.samples.specs.Layout.{layout, numbers, values_of}
 use Rattle.samples.specs.declared.Layout.{Layout}
-use Rattle.samples.specs.declared.Copied.{Copied}
-use Rattle.samples.specs.declared.Copied.TheVariants.{Count, PastEnd, BadState, NotReady, NoChannel, TooShort}
+use Rattle.samples.specs.declared.Uncopied.{Uncopied}
+use Rattle.samples.specs.declared.Uncopied.TheVariants.{PastEnd, BadState, NotReady, NoChannel, TooShort}
 
--- what each case of the answer says: the count of numbers written, or a number of refusal
-abbrev pub copied_said : Copied → Answer ℕ
-copied_said (Count n) = gives n
-copied_said PastEnd = refuses 2
-copied_said BadState = refuses 3
-copied_said NotReady = refuses 35
-copied_said NoChannel = refuses 34
-copied_said TooShort = refuses 33
+-- the number of each reason for which nothing is copied
+abbrev pub uncopied_number : Uncopied → ℕ
+uncopied_number PastEnd = 2
+uncopied_number BadState = 3
+uncopied_number NotReady = 35
+uncopied_number NoChannel = 34
+uncopied_number TooShort = 33
+
+-- what an answer says: the count of numbers written, or a number of refusal
+abbrev pub copied_said : Result ℕ Uncopied → Answer ℕ
+copied_said r = answered uncopied_number r
 
 -- its number, and the count that goes with it: 0 with a refusal
-abbrev pub copied_reply : Copied → Reply ℕ
-copied_reply a = reply_with 0 (copied_said a)
+abbrev pub copied_reply : Result ℕ Uncopied → Reply ℕ
+copied_reply r = reply_with 0 (copied_said r)
 
 -- where the channel's numbers lie in the chunk that a step would give, if it is ready data of the width
 abbrev pub layout_in : Bool → ℕ → State → Says → ℕ → Answer Layout

@@ -1,13 +1,11 @@
 -- Where the numbers of a channel lie in a ready data chunk.
-use Rattle.std.specs.Prelude.{ℕ, ◌*◌, ◌/◌, Bool, true, false, not, List, eqb, ltb, get_or}
+use Rattle.std.specs.Prelude.{ℕ, ◌*◌, ◌/◌, Bool, true, false, not, List, eqb, ltb, get_or, Option, Some, None}
 use Rattle.num.specs.Answer.{Answer, gives, refuses}
 use Rattle.num.specs.Choice.{pick}
 use Rattle.body.specs.Groups.{is_number}
 use Rattle.body.specs.declared.sampled.Data.{Data}
 use Rattle.body.specs.declared.sampled.Shape.{Shape}
 use Rattle.body.specs.declared.sampled.Shape.TheVariants.{ShortPairs, ShortReals, ShortGroup, FloatPairs, FloatReals, FloatGroup}
-use Rattle.body.specs.declared.sampled.Shaped.{Shaped}
-use Rattle.body.specs.declared.sampled.Shaped.TheVariants.{Samples, NoSamples}
 use Rattle.copy.specs.Samples.{pairs_of, reals_of}
 use Rattle.state.specs.declared.State.{State}
 use Rattle.samples.specs.declared.Layout.{Layout}
@@ -60,9 +58,9 @@ arranged FloatReals channel s d = alone channel (real d)
 arranged FloatGroup channel s d = one_of channel s d
 
 -- number 35 unless the chunk is data of the width; then number 34 unless it has the channel
-abbrev pub layout : Bool → Shaped → ℕ → State → Data → Answer Layout
-layout float (Samples shape) channel s d = pick (has_width float shape) (arranged shape channel s d) (refuses 35)
-layout float NoSamples channel s d = refuses 35
+abbrev pub layout : Bool → Option Shape → ℕ → State → Data → Answer Layout
+layout float (Some shape) channel s d = pick (has_width float shape) (arranged shape channel s d) (refuses 35)
+layout float None channel s d = refuses 35
 
 -- how many numbers they are, two for a pair
 abbrev pub numbers : Layout → ℕ

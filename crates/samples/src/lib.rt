@@ -2,7 +2,7 @@
 // gave. Here stands where they lie.
 #![tactic(auto)]
 
-mod answer;
+mod channel;
 mod given;
 pub mod patterns;
 pub mod shorts;
@@ -13,21 +13,20 @@ ghost use Rattle.frame.specs.Place.{header_size};
 ghost use Rattle.body.specs.Table.{shaped};
 ghost use Rattle.effect.specs.Effect.{effect};
 ghost use Rattle.effect.specs.Ready.{ready_data, asked_said};
-ghost use Rattle.state.specs.Good.{good_held};
 ghost use Rattle.samples.specs.Inner.Plan.{layout_said, number_bytes, Plans, Tells, Sound};
-ghost use Rattle.samples.specs.Copy.{layout_at, samples_at};
+ghost use Rattle.samples.specs.Copy.{uncopied_number, layout_at, samples_at};
 
-use body::{Data, Kind, Shape, Shaped};
-use effect::Asked;
+use body::{Data, Kind, Shape};
 use frame::Ahead;
-use num::Order;
+use num::{Numbered, Order};
 pub use patterns::{patterns_at, patterns_of};
 use reader::Cursor;
 pub use shorts::{shorts_at, shorts_of};
-use state::{State, Values};
+use state::State;
 
 // Where a channel's numbers lie among those of a chunk: pairs, by the first of them, the step from one to the next and
-// how many; or reals, from the first on.
+// how many; or reals, from the first on. A flag and no enum: definitions of specs/Layout.antt (`numbers`, `values_of`)
+// and the theorem `pairs-laid` of crates/roundtrip read it.
 #[derive(Clone, Copy)]
 pub struct Layout {
     pub pairs: bool,
@@ -37,58 +36,56 @@ pub struct Layout {
     pub count: usize,
 }
 
-// That layout, or why there is none.
-#[derive(Clone, Copy)]
-pub enum LayoutFound {
-    At(Layout),
-    NoChannel,
-    NotReady,
-}
-
 // What is to be copied: where the channel's numbers lie in a part of the stream, and the places between which that part
-// lies; or why nothing is.
+// lies. Places and no slice: of a struct with a reference each clause would say `x.now.part.now`.
 #[derive(Clone, Copy)]
-pub enum Planned {
-    Go(Layout, usize, usize),
-    Refused(Copied),
+struct Plan {
+    layout: Layout,
+    from: usize,
+    to: usize,
 }
 
-// How many numbers were copied, or why none were.
-#[derive(Clone, Copy)]
-pub enum Copied {
-    Count(usize),
-    // The cursor's place is past the end: number 2.
-    PastEnd,
-    // The cursor is in step with a state that is not good: number 3.
-    BadState,
-    // What stands at the cursor, or what a step gave, is not data that is ready and of this call's width: number 35.
-    NotReady,
-    // The chunk has no such channel: number 34.
-    NoChannel,
-    // The slice has no room for the channel's numbers: number 33.
-    TooShort,
+// Why no numbers were copied.
+#[derive(Clone, Copy, PartialEq, Eq)]
+pub enum Uncopied {
+    // The cursor's place is past the end.
+    PastEnd = 2,
+    // The cursor is in step with a state that is not good.
+    BadState = 3,
+    // What stands at the cursor, or what a step gave, is not data that is ready and of this call's width.
+    NotReady = 35,
+    // The chunk has no such channel.
+    NoChannel = 34,
+    // The slice has no room for the channel's numbers.
+    TooShort = 33,
 }
 
+impl Numbered for Uncopied {
+    ghost number_of = { uncopied_number };
+
+    // The number of the refusal: 2, 3, 35, 34 or 33.
+    fn number(self) -> u32 {
+        self as u32
+    }
+}
+
+// The width is a flag, as in specs/Layout.antt, and no type: no number is read here, so one code serves both types.
 fn has_width(float: bool, shape: Shape) -> bool
     ensures { result ≡ has_width float shape }
 {
     match shape {
-        Shape::ShortPairs => !float,
-        Shape::ShortReals => !float,
-        Shape::ShortGroup => !float,
-        Shape::FloatPairs => float,
-        Shape::FloatReals => float,
-        Shape::FloatGroup => float,
+        Shape::ShortPairs | Shape::ShortReals | Shape::ShortGroup => !float,
+        Shape::FloatPairs | Shape::FloatReals | Shape::FloatGroup => float,
     }
 }
 
-fn alone(channel: usize, layout: Layout) -> LayoutFound
+fn alone(channel: usize, layout: Layout) -> Result<Layout, Uncopied>
     ensures { layout_said result ≡ alone channel layout }
 {
     if channel == 0 {
-        LayoutFound::At(layout)
+        Ok(layout)
     } else {
-        LayoutFound::NoChannel
+        Err(Uncopied::NoChannel)
     }
 }
 
@@ -117,66 +114,55 @@ fn real(d: Data) -> Layout
     }
 }
 
-// 0 past the sixteen places.
-fn offset_at(offsets: [u32; 16], channel: usize) -> usize
-    ensures { result ≡ get_or offsets channel 0 }
-{
-    if channel < 16 {
-        offsets[channel] as usize
-    } else {
-        0
-    }
-}
-
-fn one_of(channel: usize, shown: State, d: Data) -> LayoutFound
+// Channel, state and data go on as they came to the plan: a struct of them would be made and taken apart in each call.
+fn one_of(channel: usize, shown: State, d: Data) -> Result<Layout, Uncopied>
     ensures { layout_said result ≡ one_of channel shown d }
 {
     let group = shown.values.group;
     let n = group.n;
     if channel >= n {
-        return LayoutFound::NoChannel;
+        return Err(Uncopied::NoChannel);
     }
     let offsets = group.offsets;
-    LayoutFound::At(Layout {
+    Ok(Layout {
         pairs: true,
         iq: group.iq,
-        first: offset_at(offsets, channel),
+        first: offsets.get(channel).copied().unwrap_or(0) as usize,
         step: group.increment as usize,
         count: d.samples / n,
     })
 }
 
-fn arranged(shape: Shape, channel: usize, shown: State, d: Data) -> LayoutFound
+fn arranged(shape: Shape, channel: usize, shown: State, d: Data) -> Result<Layout, Uncopied>
     ensures { layout_said result ≡ arranged shape channel shown d }
 {
     match shape {
-        Shape::ShortPairs => alone(channel, paired(shown, d)),
-        Shape::ShortReals => alone(channel, real(d)),
-        Shape::ShortGroup => one_of(channel, shown, d),
-        Shape::FloatPairs => alone(channel, paired(shown, d)),
-        Shape::FloatReals => alone(channel, real(d)),
-        Shape::FloatGroup => one_of(channel, shown, d),
+        Shape::ShortPairs | Shape::FloatPairs => alone(channel, paired(shown, d)),
+        Shape::ShortReals | Shape::FloatReals => alone(channel, real(d)),
+        Shape::ShortGroup | Shape::FloatGroup => one_of(channel, shown, d),
     }
 }
 
 // Where a channel of a ready chunk lies, if the chunk is of the width.
-fn layout_in(float: bool, shaped: Shaped, channel: usize, shown: State, d: Data) -> LayoutFound
+fn layout_in(
+    float: bool,
+    shaped: Option<Shape>,
+    channel: usize,
+    shown: State,
+    d: Data,
+) -> Result<Layout, Uncopied>
     ensures { layout_said result ≡ layout float shaped channel shown d }
 {
-    match shaped {
-        Shaped::Samples(shape) => {
-            if has_width(float, shape) {
-                arranged(shape, channel, shown, d)
-            } else {
-                LayoutFound::NotReady
-            }
-        }
-        Shaped::NoSamples => LayoutFound::NotReady,
+    let shape = shaped.ok_or(Uncopied::NotReady)?;
+    if !has_width(float, shape) {
+        return Err(Uncopied::NotReady);
     }
+    arranged(shape, channel, shown, d)
 }
 
-// The data of the complete chunk of a kind and a size at a place, where it is ready with this state.
-fn data_at(order: Order, s: &[u8], at: usize, kind: Kind, size: usize, state: State) -> Asked
+// The data of the complete chunk of a kind and a size at a place, where it is ready with this state. Place and size are
+// what the plan is made of, so the body is cut here.
+fn data_at(order: Order, s: &[u8], at: usize, kind: Kind, size: usize, state: State) -> Option<Data>
     requires { at + header_size + size ≤ length s.now }
     ensures { asked_said result
         ≡ ready_data (effect order kind (take size (drop header_size (drop at s.now))) state).says }
@@ -195,59 +181,48 @@ fn plan_in(
     d: Data,
     at: usize,
     size: usize,
-) -> Planned
+) -> Result<Plan, Uncopied>
     requires { (8 ≤ size) × (at + header_size + size < 2 ^ 64) }
     ensures { Plans (layout float (shaped kind) channel state d) at size result }
 {
-    match layout_in(float, body::shape_of(kind), channel, state, d) {
-        LayoutFound::At(layout) => Planned::Go(
-            layout,
-            at + frame::FRONT,
-            at + frame::HEADER + size,
-        ),
-        LayoutFound::NoChannel => Planned::Refused(Copied::NoChannel),
-        LayoutFound::NotReady => Planned::Refused(Copied::NotReady),
-    }
-}
-
-// Whether a state may hold these values, which is the test behind number 3. It is asked in three calls, and each list is a
-// variable of its own, so that the compiler inlines the calls and copies no list.
-fn fit(values: Values) -> bool
-    ensures { result ≡ good_held values }
-{
-    let group = values.group;
-    let gains = values.gains;
-    let sums = values.sums;
-    let frequencies = values.frequencies;
-    values.good_values()
-        & state::good_lists(group, gains, values.total_gain, sums)
-        & state::good_frequencies(frequencies)
+    let layout = layout_in(float, body::shape_of(kind), channel, state, d)?;
+    Ok(Plan {
+        layout,
+        from: at + frame::FRONT,
+        to: at + frame::HEADER + size,
+    })
 }
 
 // The plan for the chunk at a cursor. No step is made: it would move a state that nobody asks for.
-fn plan_at(order: Order, s: &[u8], cursor: Cursor, channel: usize, float: bool) -> Planned
+fn plan_at(
+    order: Order,
+    s: &[u8],
+    cursor: Cursor,
+    channel: usize,
+    float: bool,
+) -> Result<Plan, Uncopied>
     ensures { Tells s.now (layout_at float order s.now cursor channel)
         (samples_at order s.now cursor) result
         × Sound (number_bytes float) s.now result }
 {
     let at = cursor.place;
     if s.len() < at {
-        return Planned::Refused(Copied::PastEnd);
+        return Err(Uncopied::PastEnd);
     }
-    if cursor.in_step & !fit(cursor.state.values) {
-        return Planned::Refused(Copied::BadState);
+    if cursor.in_step & !cursor.state.values.is_good() {
+        return Err(Uncopied::BadState);
     }
     // Nothing is ready for a reader that is searching: it has no sample rate.
     if !cursor.in_step {
-        return Planned::Refused(Copied::NotReady);
+        return Err(Uncopied::NotReady);
     }
     let Ahead::Chunk { code, size } = frame::ahead_of(order, s, at) else {
-        return Planned::Refused(Copied::NotReady);
+        return Err(Uncopied::NotReady);
     };
     let state = cursor.state;
     let kind = body::kind_of(code);
     match data_at(order, s, at, kind, size, state) {
-        Asked::Ready(d) => plan_in(float, kind, channel, state, d, at, size),
-        Asked::NotReady => Planned::Refused(Copied::NotReady),
+        Some(d) => plan_in(float, kind, channel, state, d, at, size),
+        None => Err(Uncopied::NotReady),
     }
 }

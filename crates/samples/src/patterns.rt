@@ -1,52 +1,16 @@
-// The 32-bit patterns of a channel.
+// The 32-bit patterns of a channel. Those of shorts.rt have the same calls: docs/CALLS.md lists each by its name, and
+// the code of both is that of channel.rt.
 ghost use Rattle.std.specs.Prelude.{◌≡◌, true, length};
-ghost use Rattle.num.specs.Answer.{gives};
 ghost use Rattle.copy.specs.Samples.{pattern_at};
-ghost use Rattle.samples.specs.Inner.Plan.{lies, Sound, planned_count, planned_left};
-ghost use Rattle.samples.specs.Copy.{copied_said, layout_at, count_within, count_of, samples_at, filled};
+ghost use Rattle.samples.specs.Copy.{copied_said, layout_at, count_of, samples_at, filled};
 ghost use Rattle.samples.specs.Given.{layout_given, count_given, samples_given};
 
-use crate::{Copied, Layout, Planned, given};
+use crate::{Uncopied, channel};
 use num::Order;
 use reader::{Cursor, Stepped};
 
-// The layout lies inside src, which stands at a place of the stream.
-fn fill_from(order: Order, at: usize, src: &[u8], l: Layout, out: &mut [u32]) -> Copied
-    requires { lies 4 (length src.now) l ≡ true }
-    ensures said { copied_said result ≡ count_within (length out.old) l }
-    ensures left { out.new
-        ≡ filled (count_within (length out.old) l) (gives l) (pattern_at order src.now)
-        out.old }
-{
-    let count = l.count;
-    if l.pairs {
-        let done = copy::pattern_pairs(order, l.iq, at, src, l.first, l.step, count, out);
-        if done {
-            return Copied::Count(2 * count);
-        }
-        return Copied::TooShort;
-    }
-    let done = copy::pattern_reals(order, at, src, count, out);
-    if done {
-        return Copied::Count(count);
-    }
-    Copied::TooShort
-}
-
-// What a plan comes to: the numbers copied, or its refusal.
-fn fill(order: Order, s: &[u8], planned: Planned, out: &mut [u32]) -> Copied
-    requires { Sound 4 s.now planned }
-    ensures said { copied_said result ≡ planned_count (length out.old) planned }
-    ensures left { out.new ≡ planned_left (pattern_at order) s.now planned out.old }
-{
-    match planned {
-        Planned::Go(layout, from, to) => fill_from(order, from, &s[from..to], layout, out),
-        Planned::Refused(why) => why,
-    }
-}
-
 // Copies the 32-bit patterns of one channel out of the ready data chunk at the cursor, I before Q, to the front of the
-// slice, and answers how many they are. Refused, in this order, with 2, 3, 35, 34 and 33 (see `Copied`); then nothing
+// slice, and answers how many they are. Refused, in this order, with 2, 3, 35, 34 and 33 (see `Uncopied`); then nothing
 // is written. What lies behind the numbers stays as it was.
 pub fn patterns_at(
     order: Order,
@@ -54,19 +18,14 @@ pub fn patterns_at(
     cursor: Cursor,
     channel: usize,
     out: &mut [u32],
-) -> Copied
+) -> Result<usize, Uncopied>
     ensures said { copied_said result ≡ count_of true order s.now cursor channel (length out.old) }
     ensures left { out.new
         ≡ filled (count_of true order s.now cursor channel (length out.old))
         (layout_at true order s.now cursor channel)
         (pattern_at order (samples_at order s.now cursor)) out.old }
 {
-    fill(
-        order,
-        s,
-        crate::plan_at(order, s, cursor, channel, true),
-        out,
-    )
+    channel::at(order, s, cursor, channel, out)
 }
 
 // The same out of the chunk that a step gave; the cursor that the step left has no say. Refused with 35 where that is
@@ -79,7 +38,7 @@ pub fn patterns_of(
     stepped: Stepped,
     channel: usize,
     out: &mut [u32],
-) -> Copied
+) -> Result<usize, Uncopied>
     ensures said { copied_said result
         ≡ count_given true order s.now stepped channel (length out.old) }
     ensures left { out.new
@@ -87,10 +46,5 @@ pub fn patterns_of(
         (layout_given true order s.now stepped channel)
         (pattern_at order (samples_given s.now stepped)) out.old }
 {
-    fill(
-        order,
-        s,
-        given::plan_of(order, s, stepped, channel, true),
-        out,
-    )
+    channel::of(order, s, stepped, channel, out)
 }

@@ -1,29 +1,15 @@
 // The lines of a dump for the samples of each channel.
-ghost use Rattle.std.specs.Prelude.{◌≡◌, length};
-
-use crate::line::{Line, start};
-use crate::numbers::{with_patterns, with_shorts};
-use body::{Shape, Shaped};
-use listing::{Label, number};
+use crate::line::Line;
+use crate::numbers::first;
+use body::Shape;
+use listing::{Label, Text, hex_word, number, short};
 use num::Order;
 use reader::Stepped;
-use samples::Copied;
+use samples::Uncopied;
 use std::io;
 
-// As many numbers of a channel as a stream of the most bytes can hold.
-fn short_room() -> [i16; 32768]
-    ensures { 32768 ≡ length result }
-{
-    [0; 32768]
-}
-
-fn pattern_room() -> [u32; 16384]
-    ensures { 16384 ≡ length result }
-{
-    [0; 16384]
-}
-
-// The samples of the ready chunk that a step gave.
+// The samples of the ready chunk that a step gave. Order, slice and step go on one by one, as the calls of samples take
+// them: a struct would be taken apart again at each call.
 pub(crate) fn each(
     rt: &impl Print,
     order: Order,
@@ -31,7 +17,7 @@ pub(crate) fn each(
     stepped: Stepped,
     code: u32,
 ) -> io::Result<()> {
-    if let Shaped::Samples(shape) = body::shape_of(body::kind_of(code)) {
+    if let Some(shape) = body::shape_of(body::kind_of(code)) {
         let group = stepped.shown.values.group;
         let n = channels(shape, group.n);
         lines(rt, order, s, stepped, n, is_float(shape))?;
@@ -39,7 +25,7 @@ pub(crate) fn each(
     Ok(())
 }
 
-// How many channels there are, where a group has n.
+// How many channels there are, where a group has n. Each shape is named here and below, so that none is forgotten.
 fn channels(shape: Shape, n: usize) -> usize {
     match shape {
         Shape::ShortGroup | Shape::FloatGroup => n,
@@ -47,6 +33,7 @@ fn channels(shape: Shape, n: usize) -> usize {
     }
 }
 
+// Whether the samples are floats. The crate samples has this table too, and no call that asks it.
 fn is_float(shape: Shape) -> bool {
     match shape {
         Shape::FloatPairs | Shape::FloatReals | Shape::FloatGroup => true,
@@ -54,7 +41,9 @@ fn is_float(shape: Shape) -> bool {
     }
 }
 
-// A line for each channel: its number, the count of its numbers, and these.
+// A line for each channel: 16-bit numbers in decimal, or patterns of floats. There is room for as many as a stream of
+// the most bytes can hold. The width is a flag: a chunk's kind tells it while the program runs, and here it chooses the
+// type, the call and the room together.
 fn lines(
     rt: &impl Print,
     order: Order,
@@ -63,50 +52,35 @@ fn lines(
     channels: usize,
     float: bool,
 ) -> io::Result<()> {
-    for c in 0..channels {
+    for channel in 0..channels {
         if float {
-            patterns(rt, order, s, stepped, c)?;
+            let mut out = [0; 16384];
+            let copied = samples::patterns_of(order, s, stepped, channel, &mut out);
+            samples_line(rt, channel, copied, &out, hex_word)?;
         } else {
-            shorts(rt, order, s, stepped, c)?;
+            let mut out = [0; 32768];
+            let copied = samples::shorts_of(order, s, stepped, channel, &mut out);
+            samples_line(rt, channel, copied, &out, short)?;
         }
     }
     Ok(())
 }
 
-fn head(rt: &impl Print, channel: usize, count: usize) -> io::Result<Line> {
-    start(Label::Samples)
-        .with(rt, number(channel))?
-        .with(rt, number(count))
-}
-
-// 16-bit numbers, in decimal.
-fn shorts(
+// The line of a channel: its number, the count of its numbers, and these.
+fn samples_line<T: Copy, F: Fn(T) -> Text>(
     rt: &impl Print,
-    order: Order,
-    s: &[u8],
-    stepped: Stepped,
     channel: usize,
-) -> io::Result<()> {
-    let mut out = short_room();
-    if let Copied::Count(n) = samples::shorts_of(order, s, stepped, channel, &mut out) {
-        let head = head(rt, channel, n)?;
-        with_shorts(rt, head, &out, n)?.end(rt)?;
-    }
-    Ok(())
-}
-
-// 32-bit patterns of floats.
-fn patterns(
-    rt: &impl Print,
-    order: Order,
-    s: &[u8],
-    stepped: Stepped,
-    channel: usize,
-) -> io::Result<()> {
-    let mut out = pattern_room();
-    if let Copied::Count(n) = samples::patterns_of(order, s, stepped, channel, &mut out) {
-        let head = head(rt, channel, n)?;
-        with_patterns(rt, head, &out, n)?.end(rt)?;
+    copied: Result<usize, Uncopied>,
+    out: &[T],
+    word: F,
+) -> io::Result<()>
+    requires { F.IsAlwaysCallable word }
+{
+    if let Ok(n) = copied {
+        Line::start(rt, Label::Samples)?
+            .with_all(rt, &[number(channel), number(n)])?
+            .with_each(rt, first(out, n), word)?
+            .end(rt)?;
     }
     Ok(())
 }

@@ -9,36 +9,30 @@ mod numbers;
 mod skip;
 mod values;
 
-use frame::OrderFound;
 use listing::Text;
 use num::Order;
 pub use numbers::{print_patterns, print_shorts};
 use reader::Cursor;
 use std::io;
 
-// The first n bytes of s.
-fn write(rt: &impl Print, s: &[u8], n: usize) -> io::Result<()> {
-    if n <= s.len() {
-        rt.write_all(&s[0..n])?;
-    }
-    Ok(())
-}
-
-// Writes a text to standard output.
+// Writes a text to standard output. No text of the crate listing has a length past its places; of one that has,
+// nothing.
 pub fn print(rt: &impl Print, t: Text) -> io::Result<()> {
-    let bytes = t.bytes;
-    write(rt, &bytes, t.len)
+    match t.bytes.get(..t.len) {
+        Some(shown) => rt.write_all(shown),
+        None => Ok(()),
+    }
 }
 
-// Writes the dump of a stream to standard output: its listing, and under an item's line why bytes were skipped or what the
-// chunk shows.
+// Writes the dump of a stream to standard output: its listing, and under an item's line why bytes were skipped or what
+// the chunk shows.
 pub fn dump(rt: &impl Print, s: &[u8]) -> io::Result<()> {
     if lister::MOST < s.len() {
         return print(rt, listing::long_line());
     }
     match frame::find_order(s) {
-        OrderFound::Is(order) => ordered(rt, order, s),
-        OrderFound::Neither => print(rt, listing::none_line()),
+        Ok(order) => ordered(rt, order, s),
+        Err(_) => print(rt, listing::none_line()),
     }
 }
 
@@ -53,8 +47,7 @@ fn ordered(rt: &impl Print, order: Order, s: &[u8]) -> io::Result<()> {
         print(rt, listing::item_line(item))?;
         skip::shown(rt, item)?;
         chunk::shown(rt, order, s, stepped)?;
-        let next = stepped.cursor;
-        cursor = next;
+        cursor = stepped.cursor;
     }
     print(rt, listing::last_line(items))
 }

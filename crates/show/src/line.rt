@@ -1,62 +1,69 @@
 // A line of the dump, gathered before it is written.
+use arrayvec::ArrayVec;
 use listing::words::label;
 use listing::{Label, Text, newline};
 use std::io;
 
-// The first len bytes are gathered. A long line is written in parts.
-#[derive(Clone, Copy)]
+// What is gathered. A long line is written in parts.
+#[derive(Drop)]
 pub(crate) struct Line {
-    bytes: [u8; 1024],
-    len: usize,
+    bytes: ArrayVec<u8, 1024>,
 }
 
-// Nothing gathered yet.
-pub(crate) fn empty() -> Line {
-    Line {
-        bytes: [0; 1024],
-        len: 0,
-    }
-}
-
-// The head of a line.
-pub(crate) fn start(which: Label) -> Line {
-    empty().joined(label(which))
+// A line with these words.
+pub(crate) fn write_line(rt: &impl Print, which: Label, words: &[Text]) -> io::Result<()> {
+    Line::start(rt, which)?.with_all(rt, words)?.end(rt)
 }
 
 impl Line {
-    // A word more. Where there may be no room for it, what is gathered is written first.
-    pub(crate) fn with(self, rt: &impl Print, t: Text) -> io::Result<Line> {
-        if self.len <= 928 {
-            return Ok(self.joined(t));
+    // Nothing gathered yet.
+    pub(crate) fn empty() -> Line {
+        Line {
+            bytes: ArrayVec::new(),
         }
-        self.write(rt)?;
-        Ok(empty().joined(t))
+    }
+
+    // The head of a line.
+    pub(crate) fn start(rt: &impl Print, which: Label) -> io::Result<Line> {
+        Line::empty().with(rt, label(which))
+    }
+
+    // A word more. Where there is no room for it, what is gathered is written first.
+    pub(crate) fn with(mut self, rt: &impl Print, t: Text) -> io::Result<Line> {
+        let word = &t.bytes[..t.len.min(t.bytes.len())];
+        if self.bytes.remaining_capacity() < word.len() {
+            rt.write_all(&self.bytes)?;
+            self.bytes.clear();
+        }
+        self.bytes.try_extend_from_slice(word).unwrap();
+        Ok(self)
+    }
+
+    // These words more.
+    pub(crate) fn with_all(self, rt: &impl Print, words: &[Text]) -> io::Result<Line> {
+        self.with_each(rt, words, |word| word)
+    }
+
+    // A word more for each of some values. Each function that takes a closure has to say that it may be called with any
+    // value, so this clause stands at the two others of this crate too.
+    pub(crate) fn with_each<T: Copy, F: Fn(T) -> Text>(
+        self,
+        rt: &impl Print,
+        values: &[T],
+        word: F,
+    ) -> io::Result<Line>
+        requires { F.IsAlwaysCallable word }
+    {
+        let mut line = self;
+        for &value in values {
+            line = line.with(rt, word(value))?;
+        }
+        Ok(line)
     }
 
     // The end of the line.
     pub(crate) fn end(self, rt: &impl Print) -> io::Result<()> {
-        self.with(rt, newline())?.write(rt)
-    }
-
-    fn joined(self, t: Text) -> Line {
-        let mut bytes = self.bytes;
-        let mut len = self.len;
-        let more = t.bytes;
-        for i in 0..t.len {
-            if 96 <= i {
-                break;
-            }
-            if 1024 <= len {
-                break;
-            }
-            bytes[len] = more[i];
-            len += 1;
-        }
-        Line { bytes, len }
-    }
-
-    fn write(self, rt: &impl Print) -> io::Result<()> {
-        let bytes = self.bytes;
-        crate::write(rt, &bytes, self.len)
+        let line = self.with(rt, newline())?;
+        rt.write_all(&line.bytes)
     }
 }

@@ -1,20 +1,13 @@
 // The line of a dump under the line of skipped bytes.
-use crate::line::start;
+use crate::line::write_line;
 use listing::Label;
 use reader::Item;
 use std::io;
 
 // Why bytes were skipped; nothing for any other item.
 pub(crate) fn shown(rt: &impl Print, item: Item) -> io::Result<()> {
-    if let Item::Skipped {
-        place: _,
-        length: _,
-        cause,
-    } = item
-    {
-        start(Label::Cause)
-            .with(rt, listing::cause(cause))?
-            .end(rt)?;
+    match item {
+        Item::Skipped { cause, .. } => write_line(rt, Label::Cause, &[listing::cause(cause)]),
+        _ => Ok(()),
     }
-    Ok(())
 }

@@ -1,6 +1,6 @@
 -- Laws of the test of a list by powers of two: place k stands for 2 ^ k, and the powers of the places that hold something
 -- are added.
-use Prim.Native.Nat.{ℕ, zero, suc, ◌+◌, ◌-◌, ◌*◌, ◌%◌, ◌^◌, ◌<◌}
+use Prim.Native.Nat.{ℕ, zero, suc, ◌+◌, ◌-◌, ◌*◌, ◌%◌, ◌^◌, ◌<◌, ◌≤◌}
 use mathlib.Core.Path.{◌≡◌, refl, sym, ap, ◌∙◌}
 use mathlib.Core.Bool.{Bool, true, false, not, beq}
 use mathlib.Core.List.{List}
@@ -21,15 +21,25 @@ unfoldable pub powers : (ℕ → Bool) → ℕ → ℕ
 powers f zero = 0
 powers f (suc i) = powers f i + pick (f i) (2 ^ i) 0
 
+-- a shift of 32 bits makes the power
+pub shifted : (i : ℕ) → i ≤ 16 → 1 * 2 ^ i % 2 ^ 32 ≡ 2 ^ i
+shifted i h =
+    let m = pow_mono {i = i} {j = 16} h in
+    let e : 1 * 2 ^ i ≡ 2 ^ i = omega arith in
+    rw e (mod-eq_of_lt {n = 2 ^ i} {m = 2 ^ 32} (omega arith))
+
 module _ (f : ℕ → Bool) where
   pub powers-none : powers f 0 ≡ 0
   unfolding powers
   powers-none = refl
 
-  -- one place more
-  pub powers-next : (i a b : ℕ) → a ≡ powers f i → b ≡ pick (f i) (2 ^ i) 0 → a + b ≡ powers f (i + 1)
+  more : (i a b : ℕ) → a ≡ powers f i → b ≡ pick (f i) (2 ^ i) 0 → a + b ≡ powers f (i + 1)
   unfolding powers
-  powers-next i a b e h = rw (add-one i, e, h)
+  more i a b e h = rw (add-one i, e, h)
+
+  -- one place more, whose power the code makes by a shift of 32 bits
+  pub powers-next : (i a b : ℕ) → i < 16 → a ≡ powers f i → b ≡ pick (f i) (1 * 2 ^ i % 2 ^ 32) 0 → a + b ≡ powers f (i + 1)
+  powers-next i a b h e q = more i a b e (q ∙ rw (shifted i (omega arith)))
 
   below-by : (i a : ℕ) (t : Bool) → a < 2 ^ i → a + pick t (2 ^ i) 0 < 2 ^ suc i
   below-by i a true h = let e = two-pow-succ i in omega arith
@@ -41,11 +51,11 @@ module _ (f : ℕ → Bool) where
   powers-below (suc i) = below-by i (powers f i) (f i) (powers-below i)
 
   -- those of sixteen places have the width of a u32
-  pub powers-fit : (i a b : ℕ) → i < 16 → a ≡ powers f i → b ≡ pick (f i) (2 ^ i) 0 → a + b < 2 ^ 32
+  pub powers-fit : (i a b : ℕ) → i < 16 → a ≡ powers f i → b ≡ pick (f i) (1 * 2 ^ i % 2 ^ 32) 0 → a + b < 2 ^ 32
   powers-fit i a b h e q =
       let m = pow_mono {i = i + 1} {j = 16} (omega arith) in
       let k = powers-below (i + 1) in
-      let n = powers-next i a b e q in
+      let n = powers-next i a b h e q in
       omega arith
 
 -- ---- which places hold something
@@ -102,11 +112,11 @@ powers-rest f m (suc i) = rest-by m i (powers f i) _ (powers-below f i) (powers-
 
 module _ (p a b : ℕ) (d : Bool) (small : a < p) (tiny : b < p) (before : eqb a b ≡ d) where
   equal-by : (t u : Bool) → eqb (a + pick t p 0) (b + pick u p 0) ≡ both d (beq t u)
-  equal-by true true = shifted p d before
+  equal-by true true = moved p d before
     where
-      shifted : (x : ℕ) (c : Bool) → eqb a b ≡ c → eqb (a + x) (b + x) ≡ both c true
-      shifted x true e = let h = eqb-true a b e in eq-eqb (a + x) (b + x) (omega arith)
-      shifted x false e = let h = eqb-false a b e in ne_eqb (a + x) (b + x) (λ q. h (omega (arith, q)))
+      moved : (x : ℕ) (c : Bool) → eqb a b ≡ c → eqb (a + x) (b + x) ≡ both c true
+      moved x true e = let h = eqb-true a b e in eq-eqb (a + x) (b + x) (omega arith)
+      moved x false e = let h = eqb-false a b e in ne_eqb (a + x) (b + x) (λ q. h (omega (arith, q)))
   equal-by true false = ne_eqb (a + p) (b + 0) (λ q. omega (arith, q, small, tiny)) ∙ sym (both-false d)
   equal-by false true = ne_eqb (a + 0) (b + p) (λ q. omega (arith, q, small, tiny)) ∙ sym (both-false d)
   equal-by false false = let y : a + 0 ≡ a = omega arith in let z : b + 0 ≡ b = omega arith in rw (y, z) (before ∙ keep-true d true)

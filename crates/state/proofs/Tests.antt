@@ -1,19 +1,20 @@
 -- Laws of the tests that the code runs: a list's places one after the other, and single values.
 use Prim.Native.Nat.{ℕ, zero, suc, ◌-◌, ◌^◌, ◌<◌, ◌≤◌}
 use mathlib.Core.Path.{◌≡◌, refl, ap, sym, subst, ◌∙◌}
-use mathlib.Core.Bool.{Bool, true, false, not, ◌&&◌}
+use mathlib.Core.Bool.{Bool, true, false, not}
 use mathlib.Core.List.{List, []}
 use native.Mathlib.Nat.{zero-mul, zero-div}
 use native.Mathlib.Omega.{arith}
 use lib.Dec.{T, eqb, ltb}
-use lib.Ieee.{Float, nan, inf, fin, binary32, of_bits, to_bits, neg, lt, eq, fits, is_nan}
+use lib.Ieee.{Float, nan, inf, fin, binary32, of_bits, to_bits, eq, fits, is_nan}
 use lib.Ieee.Bits.{of_bits-to_bits}
 use lib.IntN.{ℤ, pos, negsuc}
 use lib.ListN.{length, drop, get_or, drop_of_length-le}
 use lib.Seq.{drop-cons}
 use mir.Syntax.{w64}
 use mir.Val.{SFits, of_z}
-use borrow.Author.Tests.{ne_eqb, eqb-true, lt-ltb, ltb-true}
+use borrow.Author.Tests.{ne_eqb, eqb-true, lt-ltb}
+use Rattle.std.specs.Float.{float_is_finite}
 use Rattle.num.specs.Choice.{pick, both, each}
 use Rattle.num.proofs.Tests.{both-whole, both-false}
 use Rattle.body.specs.Levels.{is_finite}
@@ -56,13 +57,12 @@ pub zero-pattern : (z : ℤ) → SFits w64 z → eqb (of_z w64 z) 0 ≡ is_zero 
 zero-pattern (pos n) h = refl
 zero-pattern (negsuc n) h = let k : n < 2 ^ 63 = h.sfits in ne_eqb (2 ^ 64 - suc n) 0 (λ e. omega arith)
 
--- a finite float is between the infinities
-pub between : (x : Float) → (lt (neg (of_bits binary32 2139095040)) x && lt x (of_bits binary32 2139095040)) ≡ is_finite x
-unfolding lt neg of_bits
-between nan = refl
-between (inf true) = refl
-between (inf false) = refl
-between (fin s m e) = refl
+-- the floats that std calls finite
+pub finite-is : (x : Float) → float_is_finite x ≡ is_finite x
+unfolding float_is_finite
+finite-is nan = refl
+finite-is (inf s) = refl
+finite-is (fin s m e) = refl
 
 zero-of : (x : Float) → T (fits binary32 x) → to_bits binary32 x ≡ 0 → x ≡ of_bits binary32 0
 zero-of x f h = sym (of_bits-to_bits binary32 x f) ∙ ap (of_bits binary32) h
@@ -80,8 +80,8 @@ unfolding to_bits off_plus_zero of_bits
 plus-zero-pattern nan f = refl
 plus-zero-pattern (inf true) f = refl
 plus-zero-pattern (inf false) f = refl
-plus-zero-pattern (fin true m e) f = ne_eqb _ _ (λ h. omega (arith, ap off_plus_zero (zero-of (fin true m e) f h)))
-plus-zero-pattern (fin false (suc m) e) f = ne_eqb _ _ (λ h. omega (arith, ap off_plus_zero (zero-of (fin false (suc m) e) f h)))
+plus-zero-pattern (fin true m e) f = ne_eqb (to_bits binary32 (fin true m e)) 0 (λ h. omega (arith, ap off_plus_zero (zero-of (fin true m e) f h)))
+plus-zero-pattern (fin false (suc m) e) f = ne_eqb (to_bits binary32 (fin false (suc m) e)) 0 (λ h. omega (arith, ap off_plus_zero (zero-of (fin false (suc m) e) f h)))
 plus-zero-pattern (fin false zero e) f = simp (zero-mul, zero-div)
 
 -- what does not equal 0 is not +0
@@ -136,9 +136,3 @@ patterns-by x y false e f g h = both-false (not (is_nan y))
 -- two that are not equal have two patterns, or the second is a NaN
 pub unequal-patterns : (x y : Float) → T (fits binary32 x) → T (fits binary32 y) → eq x y ≡ false → both (not (is_nan y)) (eqb (to_bits binary32 x) (to_bits binary32 y)) ≡ false
 unequal-patterns x y f g h = patterns-by x y (eqb (to_bits binary32 x) (to_bits binary32 y)) refl f g h
-
--- ---- a count of places
-
-pub at-most : (n : ℕ) (t : Bool) → ltb n 16 ≡ t → pick t n 16 ≤ 16
-at-most n true e = let k = ltb-true n 16 e in omega arith
-at-most n false e = omega arith

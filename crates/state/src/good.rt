@@ -6,187 +6,129 @@ ghost use Rattle.std.specs.Float.{binary32};
 ghost use Rattle.std.specs.Float.Ieee.{to_bits, is_nan};
 ghost use Rattle.num.specs.Choice.{pick, both};
 ghost use Rattle.body.specs.Levels.{is_finite};
-ghost use Rattle.state.specs.Good.{is_zero, is_plus_zero, zero_or_one, any_number, is_scale, good_number, good_band, good_level, good_head};
+ghost use Rattle.state.specs.Good.{is_zero, is_plus_zero, is_offset, is_no_offset, good_from, good_band, good_head, good_held};
+ghost use Rattle.state.specs.Sums.{agree};
 ghost use Rattle.state.specs.GoodParts.{good_values, good_lists, good_hertz};
 
-use crate::sums::{channels, kept};
+use crate::sums::channels;
 use crate::{GainSums, Values};
 use body::{BandHeld, GroupGains, GroupHertz, GroupPacking, Held, LevelHeld};
-
-// a where the test holds, b where it does not.
-fn chosen(test: bool, a: bool, b: bool) -> bool
-    ensures { result ≡ pick test a b }
-{
-    if test { a } else { b }
-}
-
-fn is_zero(x: i64) -> bool
-    ensures { result ≡ is_zero x }
-{
-    x == 0
-}
-
-fn at_least(low: i64, x: i64) -> bool
-    ensures { result ≡ le_z low x }
-{
-    low <= x
-}
-
-fn zero_or_one(x: i64) -> bool
-    ensures { result ≡ zero_or_one x }
-{
-    (0 <= x) & (x <= 1)
-}
-
-// Above -infinity and below infinity, which no NaN is.
-pub(crate) fn finite(x: f32) -> bool
-    ensures { result ≡ is_finite x }
-{
-    let top = f32::from_bits(0x7F80_0000);
-    (-top < x) & (x < top)
-}
 
 // The zero whose pattern is 0.
 fn plus_zero(x: f32) -> bool
     ensures { result ≡ is_plus_zero x }
 {
-    if x == 0.0 {
-        f32::to_bits(x) == 0
-    } else {
-        false
-    }
+    x == 0.0 && x.to_bits() == 0
 }
 
-fn good_packing(h: Held) -> bool
-    ensures { result ≡ good_number zero_or_one h }
+// a where the test holds, b where it does not. Both are worked out before: around an `if` in their place the compiler
+// keeps branches, good_values gets too long to be inlined, and a step runs 15 of 100 instructions more.
+pub(crate) fn pick<T: Copy>(test: bool, a: T, b: T) -> T
+    ensures { result ≡ pick test a b }
 {
-    chosen(h.present, zero_or_one(h.value), is_zero(h.value))
+    if test { a } else { b }
 }
 
-// Present, at least low.
-fn good_at_least(low: i64, h: Held) -> bool
-    ensures { result ≡ good_number (le_z low) h }
+// Present, the number is allowed; absent, it is 0.
+fn good_number<F: Fn(i64) -> bool>(h: Held, allowed: F) -> bool
+    requires { F.IsAlwaysCallable allowed }
+    ensures { (ok : _) × F.post allowed h.value ok × (result ≡ pick h.present ok (is_zero h.value)) }
 {
-    chosen(h.present, at_least(low, h.value), is_zero(h.value))
+    pick(h.present, allowed(h.value), h.value == 0)
 }
 
-fn good_centre(h: Held) -> bool
-    ensures { result ≡ good_number any_number h }
+// Present, the level is allowed; absent, it is the zero whose pattern is 0. Apart from `good_number`, whose absent
+// value is tested in another way: specs/Good.antt has a definition of each.
+fn good_level<F: Fn(f32) -> bool>(x: LevelHeld, allowed: F) -> bool
+    requires { F.IsAlwaysCallable allowed }
+    ensures { (ok : _) × F.post allowed x.value ok × (result ≡ pick x.present ok (is_plus_zero x.value)) }
 {
-    chosen(h.present, true, is_zero(h.value))
+    pick(x.present, allowed(x.value), plus_zero(x.value))
 }
 
 // Present, the width is at least 0 and the offset any number.
 fn good_band(b: BandHeld) -> bool
     ensures { result ≡ good_band b }
 {
-    chosen(
-        b.present,
-        at_least(0, b.width),
-        is_zero(b.width) & is_zero(b.offset),
-    )
-}
-
-fn good_level(x: LevelHeld) -> bool
-    ensures { result ≡ good_level is_finite x }
-{
-    chosen(x.present, finite(x.value), plus_zero(x.value))
-}
-
-// Present, finite and above 0.
-fn good_scale(x: LevelHeld) -> bool
-    ensures { result ≡ good_level is_scale x }
-{
-    chosen(
-        x.present,
-        finite(x.value) & (0.0 < x.value),
-        plus_zero(x.value),
-    )
-}
-
-// A number where the test holds, 0 where it does not.
-fn only(test: bool, x: u32) -> u32
-    ensures { result ≡ pick test x 0 }
-{
-    if test { x } else { 0 }
-}
-
-// n, or 16 where it is more: a list has 16 places.
-pub(crate) fn used(n: usize) -> usize
-    ensures { result ≡ pick (ltb n 16) n 16 }
-{
-    if n < 16 { n } else { 16 }
-}
-
-// 2 to the power of k, which stands for place k of a list.
-fn power(k: usize) -> u32
-    requires { k ≤ 16 }
-    ensures { result ≡ 2 ^ k }
-{
-    1u32 << k
+    pick(b.present, 0 <= b.width, (b.width == 0) & (b.offset == 0))
 }
 
 // Whether the places of a list that are not 0 are among its first n, where `filled` is the sum of their powers of two.
+// A list has 16 places.
 fn within(filled: u32, n: usize) -> bool
     ensures { result ≡ ltb filled (2 ^ pick (ltb n 16) n 16) }
 {
-    filled < power(used(n))
+    filled < 1 << n.min(16)
 }
 
-// Whether two floats have one pattern. A NaN has no pattern of its own.
+// Whether two floats have one pattern. `==` does not tell 0 from -0, and a NaN has no pattern of its own.
 fn same(x: f32, y: f32) -> bool
     ensures { result ≡ both (not (is_nan y)) (eqb (to_bits binary32 x) (to_bits binary32 y)) }
 {
-    if x == y {
-        f32::to_bits(x) == f32::to_bits(y)
-    } else {
-        false
-    }
+    x == y && x.to_bits() == y.to_bits()
 }
 
-// The second part of the test behind number 3: whether the places of the offsets and of the gains hold what they may, and
-// whether the sums agree with their parts.
-// In each list the first n places are used, and the others hold 0: `a` and `b` have the powers of two of the places that
-// hold something else, added, and are below 2 to the power of n. An offset fits an int32, and a gain is finite.
-// A flagged channel holds its sum, in every bit, and any other holds 0. The flagged ones are those that have both parts
-// and a finite sum: `marked` has the powers of the flagged channels, `finites` has those of the finite sums, and the
-// remainder leaves the channels with both parts.
-// One loop goes over all of this. It has no early way out and compares no place with n, so that the compiler tests
-// several places at a time.
+// Whether the places of the offsets hold what they may: the first n are used, with an offset that fits an int32, and
+// the others hold 0. `filled` has the powers of two of the places that hold something else, added. The loop has no
+// early way out and compares no place with n, so that the compiler tests several places at a time.
+// The gains and the frequencies have the like: one function for the three would be handed two closures, which is all
+// that they say, and the frequencies have no first test.
+fn good_offsets(group: &GroupPacking) -> bool
+    ensures { result ≡ good_from is_offset is_no_offset group.now.n 0 group.now.offsets }
+{
+    let mut small = true;
+    let mut filled = 0u32;
+    for (i, x) in group.offsets.iter().enumerate() {
+        small = small & (*x < 0x8000_0000);
+        filled += pick(*x != 0, 1 << i, 0);
+    }
+    small & within(filled, group.n)
+}
+
+// The same of the gains, which are finite. The loop is one of its own: the compiler puts a fence around each comparison
+// of floats, so that it tests them one by one, and would test the offsets so too.
+fn good_gains(gains: &GroupGains) -> bool
+    ensures { result ≡ good_from is_finite is_plus_zero gains.now.n 0 gains.now.values }
+{
+    let mut bounded = true;
+    let mut filled = 0u32;
+    for (i, x) in gains.values.iter().enumerate() {
+        bounded = bounded & x.is_finite();
+        filled += pick(!plus_zero(*x), 1 << i, 0);
+    }
+    bounded & within(filled, gains.n)
+}
+
+// Whether the sums agree with their parts: a flagged channel holds its sum, in every bit, and any other holds 0. The
+// flagged ones are those that have both parts and a finite sum: `marked` has the powers of the flagged channels,
+// `finites` has those of the finite sums, and the remainder leaves the channels with both parts.
+fn agree(total: LevelHeld, gains: &GroupGains, sums: &GainSums) -> bool
+    ensures { result ≡ agree total gains.now sums.now }
+{
+    let mut alike = true;
+    let mut marked = 0u32;
+    let mut finites = 0u32;
+    // By index: three lists are read and i is a power as well, so a chain of `zip` and `enumerate` would be no plainer.
+    for i in 0..16 {
+        let there = sums.present[i];
+        let sum = total.value + gains.values[i];
+        alike = alike & same(sums.values[i], pick(there, sum, 0.0));
+        marked += pick(there, 1 << i, 0);
+        finites += pick(sum.is_finite(), 1 << i, 0);
+    }
+    alike & (marked == finites % (1 << channels(total, gains)))
+}
+
+// The second part of the test behind number 3: whether the places of the offsets and of the gains hold what they may,
+// and whether the sums agree with their parts.
+// It is inlined by command: the compiler calls it otherwise, copies its lists for the call, and a step takes a fifth
+// longer.
+#[tactic(auto, unfolding(crate::specs::GoodParts::good_lists))]
+#[inline(always)]
 pub fn good_lists(group: GroupPacking, gains: GroupGains, total: LevelHeld, sums: GainSums) -> bool
     ensures { result ≡ good_lists group gains total sums }
 {
-    let offsets = group.offsets;
-    let decibels = gains.values;
-    let present = sums.present;
-    let added = sums.values;
-    let base = total.value;
-    let mut small = true;
-    let mut bounded = true;
-    let mut alike = true;
-    let mut a = 0u32;
-    let mut b = 0u32;
-    let mut marked = 0u32;
-    let mut finites = 0u32;
-    let mut i = 0;
-    while i < 16 {
-        let bit = power(i);
-        let x = offsets[i];
-        let z = decibels[i];
-        let there = present[i];
-        let sum = base + z;
-        small = small & (x < 0x8000_0000);
-        bounded = bounded & finite(z);
-        alike = alike & same(added[i], kept(there, sum));
-        a += only(x != 0, bit);
-        b += only(!plus_zero(z), bit);
-        marked += only(there, bit);
-        finites += only(finite(sum), bit);
-        i += 1;
-    }
-    (small & within(a, group.n))
-        & (bounded & within(b, gains.n))
-        & (alike & (marked == finites % power(channels(total, gains))))
+    good_offsets(&group) & good_gains(&gains) & agree(total, &gains, &sums)
 }
 
 // The third part: whether the places of the frequencies hold what they may, which is any number in a place that is
@@ -194,13 +136,9 @@ pub fn good_lists(group: GroupPacking, gains: GroupGains, total: LevelHeld, sums
 pub fn good_frequencies(frequencies: GroupHertz) -> bool
     ensures { result ≡ good_hertz frequencies }
 {
-    let hertz = frequencies.values;
     let mut filled = 0u32;
-    let mut i = 0;
-    while i < 16 {
-        let y = hertz[i];
-        filled += only(!is_zero(y), power(i));
-        i += 1;
+    for (i, y) in frequencies.values.iter().enumerate() {
+        filled += pick(*y != 0, 1 << i, 0);
     }
     within(filled, frequencies.n)
 }
@@ -209,33 +147,46 @@ pub fn good_frequencies(frequencies: GroupHertz) -> bool
 fn good_head(g: GroupPacking) -> bool
     ensures { result ≡ good_head g }
 {
-    let n = g.n;
-    let increment = g.increment;
-    chosen(
-        n == 0,
-        (increment == 0) & !g.iq,
-        (increment == 1) | (increment as usize == n),
+    pick(
+        g.n == 0,
+        (g.increment == 0) & !g.iq,
+        (g.increment == 1) | (g.increment as usize == g.n),
     )
 }
 
 impl Values {
-    // The first part of the test behind number 3: whether a state may hold the values that are no lists, the head of the
-    // group packing and the counts of the lists.
+    // The first part of the test behind number 3: whether a state may hold the values that are no lists, the head of
+    // the group packing and the counts of the lists.
     pub fn good_values(self) -> bool
         ensures { result ≡ good_values self }
     {
         let group = self.group;
-        good_packing(self.packing)
-            & good_at_least(1, self.rate)
+        good_number(self.packing, |x| (0..=1).contains(&x))
+            & good_number(self.rate, |x| 1 <= x)
             & good_band(self.band)
-            & good_at_least(0, self.group_band)
-            & good_centre(self.centre)
-            & good_level(self.full_scale)
-            & good_level(self.total_gain)
-            & good_scale(self.float_scale)
+            & good_number(self.group_band, |x| 0 <= x)
+            & good_number(self.centre, |_| true)
+            & good_level(self.full_scale, |x| x.is_finite())
+            & good_level(self.total_gain, |x| x.is_finite())
+            & good_level(self.float_scale, |x| x.is_finite() & (0.0 < x))
             & good_head(group)
             & (group.n <= 16)
             & (self.frequencies.n <= 16)
             & (self.gains.n <= 16)
+    }
+
+    // Whether a state may hold these values, which is the test behind number 3. It is asked in three calls, and each
+    // list is a variable of its own, so that the compiler inlines the calls and copies no list.
+    #[inline(always)]
+    pub fn is_good(self) -> bool
+        ensures { result ≡ good_held self }
+    {
+        let group = self.group;
+        let gains = self.gains;
+        let sums = self.sums;
+        let frequencies = self.frequencies;
+        self.good_values()
+            & good_lists(group, gains, self.total_gain, sums)
+            & good_frequencies(frequencies)
     }
 }

@@ -1,15 +1,15 @@
 // The total gain of each group channel: dBTG and the channel's gain, added.
-ghost use Rattle.std.specs.Prelude.{◌≡◌, ltb};
-ghost use Rattle.std.specs.Float.{binary32};
-ghost use Rattle.std.specs.Float.Ieee.{of_bits};
+ghost use Rattle.std.specs.Prelude.{◌≡◌, ◌≤◌, ltb};
 ghost use Rattle.num.specs.Choice.{pick};
 ghost use Rattle.state.specs.Sums.{both_parts, sums_of, no_sums};
 
-use crate::good::{finite, used};
+use crate::good::pick;
 use body::{GroupGains, LevelHeld};
 
-// For each of 16 channels the sum of dBTG and the channel's gain, in dB: one addition, rounded once. It is present where
-// both parts are and the sum is finite; an absent one is 0.
+// For each of 16 channels the sum of dBTG and the channel's gain, in dB: one addition, rounded once. It is present
+// where both parts are and the sum is finite; an absent one is 0.
+// A flag and a value for each channel, and no Option: a step has to refuse, with number 3, a state in which an absent
+// sum is not 0, and crates/trials gives it such states.
 #[derive(Clone, Copy)]
 pub struct GainSums {
     pub present: [bool; 16],
@@ -26,36 +26,27 @@ pub fn no_sums() -> GainSums
     }
 }
 
-// A sum that is present, and 0 for one that is not.
-pub(crate) fn kept(present: bool, sum: f32) -> f32
-    ensures { result ≡ pick present sum (of_bits binary32 0) }
-{
-    if present { sum } else { 0.0 }
-}
-
 // How many channels have both parts, or 16 where that is more.
-pub(crate) fn channels(total: LevelHeld, gains: GroupGains) -> usize
-    ensures { result ≡ pick (ltb (both_parts total gains) 16) (both_parts total gains) 16 }
+pub(crate) fn channels(total: LevelHeld, gains: &GroupGains) -> usize
+    ensures count { result ≡ pick (ltb (both_parts total gains.now) 16) (both_parts total gains.now) 16 }
+    ensures few { result ≤ 16 }
 {
-    if total.present { used(gains.n) } else { 0 }
+    if total.present { gains.n.min(16) } else { 0 }
 }
 
 // The sums from dBTG and the gains.
 pub(crate) fn sums_of(total: LevelHeld, gains: GroupGains) -> GainSums
     ensures { result ≡ sums_of total gains }
 {
-    let n = channels(total, gains);
-    let base = total.value;
-    let decibels = gains.values;
     let mut present = [false; 16];
     let mut values = [0.0f32; 16];
-    let mut i = 0;
-    while i < n {
-        let sum = base + decibels[i];
-        let there = finite(sum);
+    let n = channels(total, &gains);
+    // By index: two lists are filled from a third, so a chain of `zip` and `take` would be no plainer.
+    for i in 0..n {
+        let sum = total.value + gains.values[i];
+        let there = sum.is_finite();
         present[i] = there;
-        values[i] = kept(there, sum);
-        i += 1;
+        values[i] = pick(there, sum, 0.0);
     }
     GainSums { present, values }
 }

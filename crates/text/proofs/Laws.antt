@@ -1,18 +1,26 @@
 -- What the table says by the first byte, and how a run of characters goes on from a place.
 use Prim.Native.Nat.{ℕ, zero, suc, ◌+◌, ◌-◌, ◌≤◌, ◌<◌}
-use mathlib.Core.Path.{◌≡◌, refl, ap, sym, ◌∙◌}
-use mathlib.Core.Bool.{Bool, true, false, ◌||◌, and-true}
+use mathlib.Core.Path.{◌≡◌, refl, ap, sym, subst, ◌∙◌}
+use mathlib.Core.Bool.{Bool, true, false, ◌||◌}
+use mathlib.Core.Logic.{⊎_elim}
 use mathlib.Core.List.{List, [], ◌∷◌}
 use native.Mathlib.Omega.{arith}
-use native.Mathlib.Nat.{add-zero}
-use native.Mathlib.Numerals.{add-one}
-use borrow.Author.Tests.{ltb-true, leb-true, eqb-true, eqb-false, lt-ltb, le-leb}
-use lib.Dec.{ltb, leb, eqb}
-use lib.ListN.{length, drop, get_or, length-drop, drop_of_length-le}
-use lib.Seq.{drop-cons, drop-drop}
+use native.Mathlib.Nat.{eq-zero-or-pos}
+use borrow.Author.Tests.{ltb-true, leb-true, lt-ltb, le-leb}
+use lib.Dec.{ltb, leb}
+use Rattle.std.specs.List.{list_all, position_or_len}
+use Rattle.std.proofs.lemmas.List.{take_all, get_or-take, get_or-drop, length-take, length-take-le}
+use Rattle.std.proofs.lemmas.List.Sums.{prefix_len-le-length, fails_before_first}
+use Rattle.std.proofs.lemmas.Bool.{ltb-false, leb-false}
+use lib.ListN.{replicate, take, length, drop, get_or, length-drop, drop_of_length-le}
+use lib.Seq.{drop-drop}
+use Rattle.std.specs.Prelude.{MatchOption, cond, is_some}
+use Rattle.std.specs.Option.{unwrap_or}
+use Rattle.std.proofs.Common.{Option, Some, None}
+use Rattle.std.specs.Bool.{then_some}
 use Rattle.num.specs.Choice.{pick, both}
 use Rattle.num.proofs.Tests.{both-true}
-use Rattle.text.specs.Utf8.{Range, between, table, within, fits, first_fit, character, run_by, is_utf8}
+use Rattle.text.specs.Utf8.{Range, between, utf8_tail, table, within, fits, first_fit, character, run_by, is_utf8, PlainFront, Leads}
 
 -- ---- tests
 
@@ -36,19 +44,9 @@ fits-le [] l h = omega arith
 fits-le (r ∷ row) [] h = let z : ◌≡◌ {A = ℕ} 0 1 = cc in absurd (omega arith)
 fits-le (r ∷ row) (b ∷ l) h = omega (arith, fits-le row l (both-true (within r b) (fits row l) h).1)
 
--- too few bytes from a place on do not fit
-pub fits-short : (row : List Range) (s : List ℕ) (i : ℕ) → length s - i < length row → fits row (drop i s) ≡ false
-fits-short row s i h = never-true (fits row (drop i s)) (λ e. omega (arith, fits-le row (drop i s) e, length-drop i s))
-
--- one range of a row at a place, and the last one
-pub fits-at : (r : Range) (row : List Range) (s : List ℕ) (i : ℕ) → i < length s →
-    fits (r ∷ row) (drop i s) ≡ both (within r (get_or s i 0)) (fits row (drop (i + 1) s))
-unfolding fits
-fits-at r row s i h = rw (add-one i, drop-cons s i 0 h)
-
-pub fits-last : (r : Range) (s : List ℕ) (i : ℕ) → i < length s → fits (r ∷ []) (drop i s) ≡ within r (get_or s i 0)
-unfolding fits
-fits-last r s i h = fits-at r [] s i h ∙ and-true (within r (get_or s i 0))
+-- too few bytes do not fit
+pub fits-short : (row : List Range) (s : List ℕ) → length s < length row → fits row s ≡ false
+fits-short row s h = never-true (fits row s) (λ e. omega (arith, fits-le row s e))
 
 taken-le : (row : List Range) (l : List ℕ) (n : ℕ) (b : Bool) → fits row l ≡ b → n ≤ length l → pick b (length row) n ≤ length l
 taken-le row l n true e h = fits-le row l e
@@ -146,50 +144,125 @@ pub utf8-nil : is_utf8 [] ≡ true
 unfolding run_by
 utf8-nil = refl
 
--- ---- at a place of the bytes
+-- ---- at the front
 
-module _ (s : List ℕ) (i : ℕ) (inside : i < length s) where
-  -- how many bytes the character there takes, by the row that its first byte picks
-  pub at-row : (k : ℕ) {good : Bool} {n : ℕ} → (first k table).low ≤ get_or s i 0 → get_or s i 0 ≤ (first k table).high →
-      good ≡ fits (drop 1 (get_or table k [])) (drop (i + 1) s) → n ≡ pick good (length (get_or table k [])) 0 → n ≡ character (drop i s)
-  at-row k low high g e =
-      e
-      ∙ rw (g, add-one i, drop-cons s i 0 inside)
-      (sym (row-fits table k (get_or s i 0) (drop (suc i) s) refl (lies-in (first k table) (get_or s i 0) low high)))
+-- what the row that the first byte picks says of the bytes after it is what there is of a character
+told : (b : Bool) (n m : ℕ) → 0 < n → m ≡ pick b n 0 → MatchOption (then_some b n) (m ≡ 0) (λ r. (0 < r) × (r ≡ m))
+told true n m h e = (h, sym e)
+told false n m h e = e
 
-  pub at-none : (r : Range) → all_apart r table ≡ true → r.low ≤ get_or s i 0 → get_or s i 0 ≤ r.high → 0 ≡ character (drop i s)
-  at-none r a low high =
-      rw (drop-cons s i 0 inside) (sym (none-fits r table (get_or s i 0) (drop (suc i) s) a (lies-in r (get_or s i 0) low high)))
+pub at-row : (k x : ℕ) (l : List ℕ) {good : Bool} → (first k table).low ≤ x → x ≤ (first k table).high → 0 < length (get_or table k []) →
+    good ≡ fits (drop 1 (get_or table k [])) l →
+    MatchOption (then_some good (length (get_or table k []))) (character (x ∷ l) ≡ 0) (λ n. (0 < n) × (n ≡ character (x ∷ l)))
+at-row k x l low high some g =
+    told _ _ _ some (row-fits table k x l refl (lies-in (first k table) x low high) ∙ rw (← g))
 
-  -- the character there ends within the bytes
-  pub at-most : i + character (drop i s) ≤ length s
-  at-most = omega (arith, fit-le table (drop i s), length-drop i s)
+pub at-none : (r : Range) (x : ℕ) (l : List ℕ) → all_apart r table ≡ true → r.low ≤ x → x ≤ r.high → character (x ∷ l) ≡ 0
+at-none r x l a low high = none-fits r table x l a (lies-in r x low high)
 
-  at-place : is_utf8 (drop i s) ≡ both (ltb 0 (character (drop i s))) (is_utf8 (drop (i + character (drop i s)) s))
-  at-place = rw (← drop-drop, drop-cons s i 0 inside) (utf8-cons (get_or s i 0) (drop (suc i) s))
+-- a character is passed over, and without one the bytes are not UTF-8
+pub pass : (s : List ℕ) (n : ℕ) → n ≡ character s → 0 < n → Leads s n
+pass [] n e h = absurd (omega (arith, fit-le table []))
+pass (x ∷ l) n e h = record { within = omega (arith, fit-le table (x ∷ l)); same = utf8-cons x l ∙ rw (← e, lt-ltb 0 n h) }
 
-  -- a character is passed over, and without one the bytes are not UTF-8
-  pub pass : (n : ℕ) → n ≡ character (drop i s) → 0 < n → is_utf8 (drop i s) ≡ is_utf8 (drop (i + n) s)
-  pass n e h = at-place ∙ rw (← e, lt-ltb 0 n h)
+pub stop : (s : List ℕ) → 0 < length s → character s ≡ 0 → is_utf8 s ≡ false
+stop [] h e = absurd (omega arith)
+stop (x ∷ l) h e = utf8-cons x l ∙ rw e
 
-  pub stop : character (drop i s) ≡ 0 → is_utf8 (drop i s) ≡ false
-  stop e = at-place ∙ rw e
+-- what leads to a place, and on from there; the code's slice from n on is written with the length that is left
+rest : (s : List ℕ) (n : ℕ) → take (length s - n) (drop n s) ≡ drop n s
+rest s n = take_all _ (drop n s) (omega (arith, length-drop n s))
 
-  -- a plain byte is a character
-  pub pass-plain : get_or s i 0 < 128 → is_utf8 (drop i s) ≡ is_utf8 (drop (i + 1) s)
-  unfolding fits
-  pass-plain h = pass 1 (at-row 0 {good = true} (omega arith) (omega arith) refl refl) (omega arith)
+-- the code's first byte and its slice from there on make up the bytes
+pub first-rest : (s : List ℕ) → 0 < length s → get_or s 0 0 ∷ take (length s - 1) (drop 1 s) ≡ s
+first-rest [] h = absurd (omega arith)
+first-rest (x ∷ l) h = ap (λ t. x ∷ t) (rest (x ∷ l) 1)
 
--- plain bytes are passed over, however many
-pub plain-run : (s : List ℕ) (i n : ℕ) → i + n ≤ length s → ((k : ℕ) → k < n → get_or s (i + k) 0 < 128) → is_utf8 (drop i s) ≡ is_utf8 (drop (i + n) s)
-plain-run s i zero h all = rw add-zero
-plain-run s i (suc n) h all =
-    let e : i + 1 + n ≡ i + suc n = omega arith in
-    pass-plain s i (omega arith) (rw add-zero at (all 0 (omega arith)))
-    ∙ plain-run s (i + 1) n (omega arith) (λ k q. let d : i + suc k ≡ i + 1 + k = omega arith in rw d at (all (suc k) (omega arith)))
-    ∙ rw e
+pub leads-none : (s : List ℕ) → Leads s 0
+leads-none s = record { within = omega arith; same = refl }
 
--- where i is the end, or a place where the bytes are not UTF-8, they are UTF-8 from i on where i is the end
-pub end-told : (s : List ℕ) (i : ℕ) (here : Bool) → eqb i (length s) ≡ here → i ≤ length s → (i < length s → is_utf8 (drop i s) ≡ false) → here ≡ is_utf8 (drop i s)
-end-told s i true e h f = sym (ap is_utf8 (drop_of_length-le s {i = i} (omega (arith, eqb-true i (length s) e))) ∙ utf8-nil)
-end-told s i false e h f = sym (f (omega (arith, eqb-false i (length s) e)))
+leads-by : (s : List ℕ) (n m : ℕ) → Leads s n → Leads (drop n s) m → Leads s (n + m)
+leads-by s n m a b = record {
+  within = omega (arith, a.within, b.within, length-drop n s);
+  same = a.same ∙ b.same ∙ ap is_utf8 (drop-drop m n s);
+}
+
+pub leads-on : (s : List ℕ) (n m : ℕ) → Leads s n → Leads (take (length s - n) (drop n s)) m → Leads s (n + m)
+leads-on s n m a b = leads-by s n m a (subst (λ l. Leads l m) (rest s n) b)
+
+pub stop-at : (s : List ℕ) (n : ℕ) → Leads s n → n < length s → character (take (length s - n) (drop n s)) ≡ 0 → is_utf8 s ≡ false
+stop-at s n a h e = a.same ∙ stop (drop n s) (omega (arith, length-drop n s)) (rw (rest s n) at e)
+
+-- characters that lead to the end, or a place where none stands, tell whether the bytes are UTF-8
+pub told-end : (s : List ℕ) (r : Option ℕ) → MatchOption r (is_utf8 s ≡ false) (λ n. (length s ≤ n) × Leads s n) → is_some r ≡ is_utf8 s
+told-end s None h = sym h
+told-end s (Some n) h = sym (h.1.same ∙ ap is_utf8 (drop_of_length-le s {i = n} h.0) ∙ utf8-nil)
+
+-- ---- plain bytes at the front
+
+pub plain-none : (s : List ℕ) → PlainFront s 0
+plain-none s = record { within = omega arith; plain = λ k h. absurd (omega arith) }
+
+plain-by : (s : List ℕ) (n m : ℕ) → PlainFront s n → PlainFront (drop n s) m → PlainFront s (n + m)
+plain-by s n m a b = record {
+  within = omega (arith, a.within, b.within, length-drop n s);
+  plain = λ k h. ⊎_elim
+      (λ e. (let q : n + (k - n) ≡ k = omega arith in rw (get_or-drop n s (k - n) 0, q) at (b.plain (k - n) (omega arith))))
+      (λ l. a.plain k (omega arith))
+      (eq-zero-or-pos (n - k));
+}
+
+pub plain-on : (s : List ℕ) (n m : ℕ) → PlainFront s n → PlainFront (take (length s - n) (drop n s)) m → PlainFront s (n + m)
+plain-on s n m a b = plain-by s n m a (subst (λ l. PlainFront l m) (rest s n) b)
+
+-- the front of a front
+pub plain-take : (s : List ℕ) (m n : ℕ) → PlainFront (take m s) n → n ≤ m → PlainFront s n
+plain-take s m n a h = record {
+  within = omega (arith, a.within, length-take m s);
+  plain = λ k q. rw (get_or-take m s k 0 (omega arith)) at (a.plain k q);
+}
+
+-- a plain byte, and those after it
+pub plain-after : (s : List ℕ) (m k : ℕ) → 0 < length s → get_or s 0 0 < 128 → PlainFront (take m (drop 1 s)) k → k ≤ m → PlainFront s (1 + k)
+plain-after s m k h low a q =
+    plain-by s 1 k
+    (record { within = omega arith; plain = λ j l. (let e : j ≡ 0 = omega arith in rw e low) })
+    (plain-take (drop 1 s) m k a q)
+
+-- a front that is plain, whole
+pub plain-front : (s front : List ℕ) (n : ℕ) → n ≤ length s → front ≡ take n s → PlainFront front (length front) → PlainFront s n
+plain-front s front n h e a =
+    let l : length front ≡ n = ap length e ∙ length-take-le n s h in
+    plain-take s n n (subst (λ t. PlainFront t n) e (subst (PlainFront front) l a)) (omega arith)
+
+-- the bytes before the first that is not plain
+found-or : (k n : ℕ) (b : Bool) (r : Option ℕ) → ltb k n ≡ b → k ≤ n → r ≡ cond b (Some k) None → unwrap_or r n ≡ k
+found-or k n true r e h q = ap (λ r. unwrap_or r n) q
+found-or k n false r e h q = ap (λ r. unwrap_or r n) q ∙ omega (arith, ltb-false k n e)
+
+pub plain-first : (r : Option ℕ) (s : List ℕ) →
+    r ≡ cond (ltb (position_or_len (leb 128) s) (length s)) (Some (position_or_len (leb 128) s)) None → PlainFront s (unwrap_or r (length s))
+plain-first r s e =
+    let k = position_or_len (leb 128) s in
+    let h : k ≤ length s = prefix_len-le-length _ s in
+    subst (PlainFront s) (sym (found-or k (length s) (ltb k (length s)) r refl h e))
+    (record { within = h; plain = λ j q. omega (arith, leb-false 128 (get_or s j 0) (fails_before_first (leb 128) s j 0 q)) })
+
+-- plain bytes are characters
+pub plain-leads : (n : ℕ) (s : List ℕ) → PlainFront s n → Leads s n
+unfolding fits
+plain-leads zero s p = leads-none s
+plain-leads (suc n) [] p = absurd (omega (arith, p.within))
+plain-leads (suc n) (x ∷ l) p =
+    let low : x < 128 = p.plain 0 (omega arith) in
+    let one : Leads (x ∷ l) 1 = pass (x ∷ l) 1 (sym (row-fits table 0 x l refl (lies-in (first 0 table) x (omega arith) (omega arith)))) (omega arith) in
+    let more : Leads l n = plain-leads n l (record { within = omega (arith, p.within); plain = λ k q. p.plain (suc k) (omega arith) }) in
+    let e : 1 + n ≡ suc n = omega arith in
+    subst (Leads (x ∷ l)) e (leads-by (x ∷ l) 1 n one more)
+
+-- so many bytes that continue characters
+pub fits-tails : (n : ℕ) (s : List ℕ) → n ≤ length s → list_all (within utf8_tail) (take n s) ≡ fits (replicate n utf8_tail) s
+unfolding fits
+fits-tails zero s h = refl
+fits-tails (suc n) [] h = absurd (omega arith)
+fits-tails (suc n) (b ∷ l) h = ap (both (within utf8_tail b)) (fits-tails n l (omega arith))

@@ -4,7 +4,6 @@ use mathlib.Core.Path.{◌≡◌, refl, sym, ◌∙◌}
 use mathlib.Core.Bool.{Bool, true, false}
 use mathlib.Core.List.{List, [], ◌∷◌, ◌++◌}
 use native.Mathlib.Omega.{arith}
-use native.Mathlib.Nat.{zero-add}
 use borrow.Author.Tests.{ltb-true}
 use lib.Dec.{ltb}
 use lib.ListN.{length, drop, get_or, length-drop}
@@ -12,7 +11,7 @@ use lib.Seq.{drop-append-le, drop-length}
 use Rattle.num.specs.Choice.{pick}
 use Rattle.num.proofs.Tests.{both-true}
 use Rattle.text.specs.Utf8.{Range, table, within, fits, first_fit, character, run_by, is_utf8}
-use Rattle.text.proofs.Laws.{fit-le, distinct, all_apart, none-fits, utf8-cons, utf8-nil, plain-run}
+use Rattle.text.proofs.Laws.{fit-le, distinct, all_apart, none-fits, utf8-cons, utf8-nil, plain-leads}
 
 -- ---- examples
 
@@ -47,8 +46,7 @@ cut = refl
 -- ---- plain text
 
 pub plain-text : (s : List ℕ) → ((k : ℕ) → k < length s → get_or s k 0 < 128) → is_utf8 s ≡ true
-plain-text s all =
-    plain-run s 0 (length s) (omega arith) (λ k h. rw zero-add (all k h)) ∙ rw (zero-add, drop-length s) utf8-nil
+plain-text s all = (plain-leads (length s) s (record { within = omega arith; plain = all })).same ∙ rw (drop-length s) utf8-nil
 
 -- ---- joined texts
 

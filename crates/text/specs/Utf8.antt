@@ -1,5 +1,5 @@
 -- UTF-8: the table of RFC 3629, section 4, and the lists of bytes that are a run of its characters.
-use Rattle.std.specs.Prelude.{ℕ, zero, suc, Bool, true, false, List, [], ◌∷◌, ltb, leb, length, drop}
+use Rattle.std.specs.Prelude.{◌≡◌, ◌≤◌, ◌<◌, ℕ, zero, suc, Bool, true, false, List, [], ◌∷◌, ltb, leb, length, drop, get_or}
 use Rattle.num.specs.Choice.{pick, both}
 
 -- a range of bytes, by its lowest and its highest
@@ -58,3 +58,13 @@ run_by (suc f) (b ∷ l) = both (ltb 0 (character (b ∷ l))) (run_by f (drop (c
 -- the bytes are UTF-8: a character has a byte at least, so as much fuel as bytes is enough
 abbrev pub is_utf8 : List ℕ → Bool
 is_utf8 l = run_by (length l) l
+
+-- the n bytes at the front are plain, below 80 hex
+pub record PlainFront (l : List ℕ) (n : ℕ) : Type 0 where
+  pub within : n ≤ length l
+  pub plain : (k : ℕ) → k < n → get_or l k 0 < 128
+
+-- whole characters lead over n bytes at the front: what is ahead of them is UTF-8 where the whole is
+pub record Leads (l : List ℕ) (n : ℕ) : Type 0 where
+  pub within : n ≤ length l
+  pub same : is_utf8 l ≡ is_utf8 (drop n l)

@@ -1,9 +1,8 @@
 // UTF-8: whether bytes are a run of the characters of RFC 3629.
 #![tactic(auto)]
 
-ghost use Rattle.std.specs.Prelude.{◌≡◌, true, false, [], ◌∷◌, ℕ, ◌+◌, ◌<◌, ◌≤◌, length, get_or, drop};
-ghost use Rattle.num.specs.Choice.{pick};
-ghost use Rattle.text.specs.Utf8.{between, utf8_tail, within, fits, character, is_utf8};
+ghost use Rattle.std.specs.Prelude.{◌≡◌, true, false, ◌∷◌, ◌<◌, ◌≤◌, length, replicate, MatchOption};
+ghost use Rattle.text.specs.Utf8.{between, utf8_tail, within, fits, character, is_utf8, PlainFront, Leads};
 
 // Whether b lies in low..=high.
 fn lies(b: u8, low: u8, high: u8) -> bool
@@ -12,150 +11,114 @@ fn lies(b: u8, low: u8, high: u8) -> bool
     (low <= b) & (b <= high)
 }
 
-// n where a test holds, else 0.
-fn sized(n: usize, good: bool) -> usize
-    ensures { result ≡ pick good n 0 }
+// Whether the first N bytes continue a character.
+fn tails<const N: usize>(s: &[u8]) -> bool
+    ensures { result ≡ fits (replicate N utf8_tail) s.now }
 {
-    if good { n } else { 0 }
-}
-
-// Whether the byte at i continues a character.
-fn one(s: &[u8], i: usize) -> bool
-    requires { i ≤ length s.now }
-    ensures { result ≡ fits (utf8_tail ∷ []) (drop i s.now) }
-{
-    if s.len() - i < 1 {
-        return false;
-    }
-    lies(s[i], 0x80, 0xBF)
-}
-
-// Whether the two bytes from i on continue a character, with the first of them in low..=high.
-fn two(s: &[u8], i: usize, low: u8, high: u8) -> bool
-    requires { i ≤ length s.now }
-    ensures { result ≡ fits (between low high ∷ utf8_tail ∷ []) (drop i s.now) }
-{
-    if s.len() - i < 2 {
-        return false;
-    }
-    lies(s[i], low, high) & lies(s[i + 1], 0x80, 0xBF)
-}
-
-// The same of three bytes.
-fn three(s: &[u8], i: usize, low: u8, high: u8) -> bool
-    requires { i ≤ length s.now }
-    ensures { result ≡ fits (between low high ∷ utf8_tail ∷ utf8_tail ∷ []) (drop i s.now) }
-{
-    if s.len() - i < 3 {
-        return false;
-    }
-    lies(s[i], low, high) & (lies(s[i + 1], 0x80, 0xBF) & lies(s[i + 2], 0x80, 0xBF))
-}
-
-// How many bytes the character at i takes, 0 where none stands there. Its first byte is not plain.
-fn long(s: &[u8], i: usize) -> usize
-    requires { (i < length s.now) × (128 ≤ get_or s.now i 0) }
-    ensures { result ≡ character (drop i s.now) }
-{
-    let j = i + 1;
-    match s[i] {
-        0xC2..=0xDF => sized(2, one(s, j)),
-        0xE0 => sized(3, two(s, j, 0xA0, 0xBF)),
-        0xE1..=0xEC => sized(3, two(s, j, 0x80, 0xBF)),
-        0xED => sized(3, two(s, j, 0x80, 0x9F)),
-        0xEE..=0xEF => sized(3, two(s, j, 0x80, 0xBF)),
-        0xF0 => sized(4, three(s, j, 0x90, 0xBF)),
-        0xF1..=0xF3 => sized(4, three(s, j, 0x80, 0xBF)),
-        0xF4 => sized(4, three(s, j, 0x80, 0x8F)),
-        _ => 0,
+    match s.get(..N) {
+        Some(bytes) => bytes.iter().all(|b| lies(*b, 0x80, 0xBF)),
+        None => false,
     }
 }
 
-// Whether the n bytes from i on are plain, below 80 hex. The loop has no early way out, so that many bytes are compared
-// at a time.
-fn plain(s: &[u8], i: usize, n: usize) -> bool
-    requires { i + n ≤ length s.now }
-    ensures { result ≡ true → (k : ℕ) → k < n → get_or s.now (i + k) 0 < 128 }
+// Whether the first byte continues a character and lies in low..=high, and N bytes after it continue one too.
+fn second<const N: usize>(s: &[u8], low: u8, high: u8) -> bool
+    ensures { result ≡ fits (between low high ∷ replicate N utf8_tail) s.now }
+{
+    match s.split_first() {
+        Some((b, rest)) => lies(*b, low, high) & tails::<N>(rest),
+        None => false,
+    }
+}
+
+// How many bytes the character takes that begins with first and goes on in rest, None where they begin none. The first byte
+// comes by itself, so that the compiler asks once whether there are enough.
+fn character(first: u8, rest: &[u8]) -> Option<usize>
+    ensures { MatchOption result (character (first ∷ rest.now) ≡ 0) (λ n. (0 < n) × (n ≡ character (first ∷ rest.now))) }
+{
+    match first {
+        0x00..=0x7F => Some(1),
+        0xC2..=0xDF => tails::<1>(rest).then_some(2),
+        0xE0 => second::<1>(rest, 0xA0, 0xBF).then_some(3),
+        0xE1..=0xEC => tails::<2>(rest).then_some(3),
+        0xED => second::<1>(rest, 0x80, 0x9F).then_some(3),
+        0xEE..=0xEF => tails::<2>(rest).then_some(3),
+        0xF0 => second::<2>(rest, 0x90, 0xBF).then_some(4),
+        0xF1..=0xF3 => tails::<3>(rest).then_some(4),
+        0xF4 => second::<2>(rest, 0x80, 0x8F).then_some(4),
+        _ => None,
+    }
+}
+
+// Whether the bytes are plain, below 80 hex. The loop has no early way out, so that many bytes are compared at a time.
+fn plain(s: &[u8]) -> bool
+    ensures { result ≡ true → PlainFront s.now (length s.now) }
 {
     let mut top = 0u8;
-    let mut k = 0;
-    while k < n {
-        let b = s[i + k];
-        if top < b {
-            top = b;
-        }
-        k += 1;
+    for b in s {
+        top = top.max(*b);
     }
     top < 0x80
 }
 
-// Where whole groups of eight plain bytes lead from i on, at most to end.
-fn eights(s: &[u8], i: usize, end: usize) -> usize
-    requires { (i ≤ end) × (end ≤ length s.now) }
-    ensures { (i ≤ result) × (result ≤ end) × (is_utf8 (drop i s.now) ≡ is_utf8 (drop result s.now)) }
+// How many bytes the whole groups of eight plain bytes take that lead. No iterator over chunks: the promise is of the whole
+// slice, from which the groups are taken one by one.
+fn eights(s: &[u8]) -> usize
+    ensures { PlainFront s.now result }
 {
-    let mut at = i;
-    while 8 <= end - at {
-        if !plain(s, at, 8) {
-            return at;
+    let mut n = 0;
+    while let Some(group) = s[n..].first_chunk::<8>() {
+        if !plain(group) {
+            break;
         }
-        at += 8;
+        n += 8;
     }
-    at
+    n
 }
 
-// Where plain bytes lead from i on, at most to end.
-fn plains(s: &[u8], i: usize, end: usize) -> usize
-    requires { (i ≤ end) × (end ≤ length s.now) }
-    ensures { (i ≤ result) × (result ≤ end) × (is_utf8 (drop i s.now) ≡ is_utf8 (drop result s.now)) }
+// How many plain bytes lead.
+fn plains(s: &[u8]) -> usize
+    ensures { PlainFront s.now result }
 {
-    let mut at = eights(s, i, end);
-    while at < end {
-        if 0x80 <= s[at] {
-            return at;
-        }
-        at += 1;
-    }
-    at
+    let n = eights(s);
+    let rest = &s[n..];
+    n + rest.iter().position(|b| 0x80 <= *b).unwrap_or(rest.len())
 }
 
-// Where whole characters lead from i on: to end or past it, or to a place before end where no character stands.
-fn characters(s: &[u8], i: usize, end: usize) -> usize
-    requires { (i ≤ length s.now) × (end ≤ length s.now) }
-    ensures { (result ≤ length s.now)
-        × (is_utf8 (drop i s.now) ≡ is_utf8 (drop result s.now))
-        × (result < end → is_utf8 (drop result s.now) ≡ false) }
+// How many bytes whole characters at the front take, up to end or past it; None where before end no character stands. The
+// loop goes by the widths of characters, and the last one may reach past end, so that s is not cut there.
+fn characters(s: &[u8], end: usize) -> Option<usize>
+    requires { end ≤ length s.now }
+    ensures { MatchOption result (is_utf8 s.now ≡ false) (λ n. (end ≤ n) × Leads s.now n) }
 {
-    let mut at = i;
+    let mut at = 0;
     while at < end {
-        if s[at] < 0x80 {
-            at = plains(s, at + 1, end);
+        let rest = &s[at..];
+        if rest[0] < 0x80 {
+            at += 1 + plains(&rest[1..end - at]);
         } else {
-            let n = long(s, at);
-            if n == 0 {
-                return at;
-            }
-            at += n;
+            at += character(rest[0], &rest[1..])?;
         }
     }
-    at
+    Some(at)
 }
 
-// Whether the bytes are UTF-8 as RFC 3629 has it. Blocks of ASCII are passed over at once.
+// Whether the bytes are UTF-8 as RFC 3629 has it. Blocks of ASCII are passed over at once; behind any other block the next
+// one begins where its last character ends. `str::from_utf8` promises it by the characters that the bytes encode, and
+// not by that table, which `is_utf8` is.
 pub fn utf8(bytes: &[u8]) -> bool
     ensures { result ≡ is_utf8 bytes.now }
 {
-    let mut i = 0;
-    while 32 <= bytes.len() - i {
-        let end = i + 32;
-        if plain(bytes, i, 32) {
-            i = end;
+    let mut rest = bytes;
+    while let Some((block, ahead)) = rest.split_first_chunk::<32>() {
+        if plain(block) {
+            rest = ahead;
         } else {
-            i = characters(bytes, i, end);
-            if i < end {
-                return false;
+            match characters(rest, 32) {
+                Some(n) => rest = &rest[n..],
+                None => return false,
             }
         }
     }
-    characters(bytes, i, bytes.len()) == bytes.len()
+    characters(rest, rest.len()).is_some()
 }

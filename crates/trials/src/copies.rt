@@ -1,91 +1,62 @@
 // Copies at each cursor of a stream: of both widths, from channels that are there and that are not, into slices with
 // and without room.
-use crate::answer::{more, refused};
+use crate::digest::Digest;
 use num::Order;
 use reader::Cursor;
-use samples::Copied;
+use samples::Uncopied;
 use std::io;
 
 pub(crate) fn both(rt: &impl Print, s: &[u8]) -> io::Result<()> {
-    crate::answer::line(rt, "copies big", stream(Order::Big, s))?;
-    crate::answer::line(rt, "copies little", stream(Order::Little, s))
+    crate::digest::read(rt, "copies", |order| stream(order, s))
 }
 
 // The digest of all copies, at the cursor before each step.
-fn stream(order: Order, s: &[u8]) -> u64 {
-    let items = reader::count(order, s);
+fn stream(order: Order, s: &[u8]) -> Digest {
     let mut cursor = Cursor::new();
-    let mut digest = 1;
-    for _ in 0..items {
-        digest = rooms(order, s, cursor, 0, digest);
-        digest = rooms(order, s, cursor, 1, digest);
-        digest = rooms(order, s, cursor, 15, digest);
-        digest = rooms(order, s, cursor, 16, digest);
-        let stepped = cursor.step(order, s);
-        let next = stepped.cursor;
-        cursor = next;
+    let mut digest = Digest::new();
+    for _ in 0..reader::count(order, s) {
+        for channel in [0, 1, 15, 16] {
+            for room in [0, 6, 64] {
+                digest = widths(order, s, cursor, channel, room, digest);
+            }
+        }
+        cursor = cursor.step(order, s).cursor;
     }
     digest
 }
 
-// A channel into slices of no number, of six and of sixty-four.
-fn rooms(order: Order, s: &[u8], cursor: Cursor, channel: usize, digest: u64) -> u64 {
-    let a = widths(order, s, cursor, channel, 0, digest);
-    let b = widths(order, s, cursor, channel, 6, a);
-    widths(order, s, cursor, channel, 64, b)
-}
-
-// What a copy of each width answers, and what both slices then hold.
+// What a copy of each width answers, and what both slices then hold. There is room for 64 numbers at most.
 pub(crate) fn widths(
     order: Order,
     s: &[u8],
     cursor: Cursor,
     channel: usize,
     room: usize,
-    digest: u64,
-) -> u64 {
+    digest: Digest,
+) -> Digest {
     let mut numbers = [-21846i16; 64];
     let mut patterns = [0xAAAA_AAAAu32; 64];
-    if 64 < room {
-        return digest;
-    }
-    let a = told(
-        samples::shorts_at(order, s, cursor, channel, &mut numbers[0..room]),
-        digest,
-    );
-    let b = told(
-        samples::patterns_at(order, s, cursor, channel, &mut patterns[0..room]),
-        a,
-    );
-    held(&numbers, &patterns, b)
+    let room = room.min(64);
+    let shorts = samples::shorts_at(order, s, cursor, channel, &mut numbers[..room]);
+    let floats = samples::patterns_at(order, s, cursor, channel, &mut patterns[..room]);
+    let answered = told(floats, told(shorts, digest));
+    numbers
+        .iter()
+        .zip(&patterns)
+        .fold(answered, |sum, (number, pattern)| {
+            sum.with(u64::from(number.cast_unsigned()))
+                .with(u64::from(*pattern))
+        })
 }
 
-// The answer of a copy.
-fn told(copied: Copied, digest: u64) -> u64 {
+// The answer of a copy. The numbers of refusal do not come from the library, so that a wrong one there shows.
+fn told(copied: Result<usize, Uncopied>, digest: Digest) -> Digest {
     match copied {
-        Copied::Count(n) => more(digest, n as u64),
-        Copied::PastEnd => refused(digest, 2),
-        Copied::BadState => refused(digest, 3),
-        Copied::TooShort => refused(digest, 33),
-        Copied::NoChannel => refused(digest, 34),
-        Copied::NotReady => refused(digest, 35),
+        Ok(n) => digest.with(n as u64),
+        Err(Uncopied::PastEnd) => digest.refused(2),
+        Err(Uncopied::BadState) => digest.refused(3),
+        Err(Uncopied::TooShort) => digest.refused(33),
+        Err(Uncopied::NoChannel) => digest.refused(34),
+        Err(Uncopied::NotReady) => digest.refused(35),
     }
-}
-
-fn wide(x: u16) -> u64 {
-    x as u64
-}
-
-fn widest(x: u32) -> u64 {
-    x as u64
-}
-
-// The elements of both, in turn.
-fn held(numbers: &[i16; 64], patterns: &[u32; 64], digest: u64) -> u64 {
-    let mut sum = digest;
-    for i in 0..64 {
-        sum = more(sum, wide(num::pattern16(numbers[i])));
-        sum = more(sum, widest(patterns[i]));
-    }
-    sum
 }

@@ -3,17 +3,17 @@
 // has the number of streams, then for each its length and its bytes; both numbers take four bytes, the lowest first.
 #![tactic(auto)]
 
-mod answer;
 mod check;
 mod copies;
 mod cursors;
+mod digest;
 mod rows;
+mod run;
 mod states;
 mod totals;
 mod values;
 mod writes;
 
-use num::Order;
 use std::io::Read;
 use std::{fs, io};
 
@@ -21,7 +21,7 @@ use std::{fs, io};
 fn next(file: &mut impl Read) -> io::Result<usize> {
     let mut bytes = [0u8; 4];
     input::filled(file, &mut bytes)?;
-    Ok(num::u32_of(Order::Little, bytes) as usize)
+    Ok(u32::from_le_bytes(bytes) as usize)
 }
 
 // All trials of one stream.
@@ -35,30 +35,14 @@ fn trial(rt: &impl Print, s: &[u8]) -> io::Result<()> {
     cursors::both(rt, s)
 }
 
-// The next stream into the front of buf; how many bytes came.
-fn taken(file: &mut impl Read, buf: &mut [u8]) -> io::Result<usize> {
-    let size = next(file)?;
-    if buf.len() < size {
-        return Ok(0);
-    }
-    input::filled(file, &mut buf[0..size])
-}
-
-// The trials of the stream at the front of buf.
-fn tried(rt: &impl Print, buf: &[u8], n: usize) -> io::Result<()> {
-    if n <= buf.len() {
-        trial(rt, &buf[0..n])?;
-    }
-    Ok(())
-}
-
-// The streams one after the other.
+// The streams one after the other. One without room is tried as an empty one.
 fn streams(rt: &impl Print, file: &mut impl Read) -> io::Result<()> {
     let mut buf = [0u8; lister::STREAM_ROOM];
-    let count = next(file)?;
-    for _ in 0..count {
-        let n = taken(file, &mut buf)?;
-        tried(rt, &buf, n)?;
+    for _ in 0..next(file)? {
+        let size = next(file)?;
+        let room = if size <= buf.len() { size } else { 0 };
+        let n = input::filled(file, &mut buf[..room])?;
+        trial(rt, &buf[..n])?;
     }
     Ok(())
 }

@@ -1,13 +1,20 @@
-// Fifty-nine states: a full one and the empty one; the full one with one value that no state may hold; from 36 to 40 with
-// one at the edge of what a state may hold; from 41 to 50 with sums that do not agree with their parts; and from 51 on
-// with sums that do.
+// Fifty-nine states: a full one and the empty one; the full one with one value that no state may hold; from 36 to 40
+// with one at the edge of what a state may hold; from 41 to 50 with sums that do not agree with their parts; and from
+// 51 on with sums that do.
 use body::{BandHeld, GroupGains, GroupHertz, GroupPacking, Held, LevelHeld};
 use state::{State, Values};
 
 // How many there are.
 pub(crate) const STATES: usize = 59;
 
-// The k-th state.
+// The least number above 0.
+pub(crate) const LEAST: f32 = f32::from_bits(1);
+
+// The next number above that, twice as large.
+pub(crate) const TWICE_LEAST: f32 = f32::from_bits(2);
+
+// The k-th state. Each of its values has a table below, which names the states where it is not that of the full one. The
+// types are the library's, flags and counts with them, since a trial gives what no chunk leaves.
 pub(crate) fn made(k: usize) -> State {
     if k == 1 {
         return State::empty(false);
@@ -31,64 +38,29 @@ pub(crate) fn made(k: usize) -> State {
     }
 }
 
-fn present(value: i64) -> Held {
-    Held {
-        present: true,
-        value,
-    }
-}
-
-fn absent(value: i64) -> Held {
-    Held {
-        present: false,
-        value,
-    }
+// Held and LevelHeld are two types of the library, so each has a maker here.
+fn held(present: bool, value: i64) -> Held {
+    Held { present, value }
 }
 
 fn level(present: bool, value: f32) -> LevelHeld {
     LevelHeld { present, value }
 }
 
-// Infinity.
-pub(crate) fn endless() -> f32 {
-    f32::from_bits(0x7F80_0000)
-}
-
-// The least number above 0.
-pub(crate) fn least() -> f32 {
-    f32::from_bits(1)
-}
-
-// The next number above that, twice as large.
-pub(crate) fn twice_least() -> f32 {
-    f32::from_bits(2)
-}
-
-// The largest finite float.
-pub(crate) fn largest() -> f32 {
-    f32::from_bits(0x7F7F_FFFF)
-}
-
-// What infinity less itself is: a NaN.
-pub(crate) fn no_number() -> f32 {
-    let x = endless();
-    x - x
-}
-
 fn packing(k: usize) -> Held {
     match k {
-        2 => present(2),
-        3 => present(-1),
-        4 => absent(1),
-        _ => present(1),
+        2 => held(true, 2),
+        3 => held(true, -1),
+        4 => held(false, 1),
+        _ => held(true, 1),
     }
 }
 
 fn rate(k: usize) -> Held {
     match k {
-        5 => present(0),
-        6 => absent(1),
-        _ => present(48000000000),
+        5 => held(true, 0),
+        6 => held(false, 1),
+        _ => held(true, 48000000000),
     }
 }
 
@@ -111,22 +83,22 @@ fn width(present: bool, width: i64, offset: i64) -> BandHeld {
 
 fn group_band(k: usize) -> Held {
     match k {
-        10 => present(-1),
-        11 => absent(1),
-        _ => present(7),
+        10 => held(true, -1),
+        11 => held(false, 1),
+        _ => held(true, 7),
     }
 }
 
 fn centre(k: usize) -> Held {
     match k {
-        12 => absent(1),
-        _ => present(-9),
+        12 => held(false, 1),
+        _ => held(true, -9),
     }
 }
 
 fn full_scale(k: usize) -> LevelHeld {
     match k {
-        13 => level(true, endless()),
+        13 => level(true, f32::INFINITY),
         14 => level(false, -0.0),
         40 => level(true, -0.0),
         _ => level(true, -3.5),
@@ -135,12 +107,12 @@ fn full_scale(k: usize) -> LevelHeld {
 
 fn total_gain(k: usize) -> LevelHeld {
     match k {
-        15 => level(true, no_number()),
+        15 => level(true, f32::NAN),
         16 => level(false, 1.0),
         46 | 55 => level(false, 0.0),
-        47 | 53 => level(true, largest()),
+        47 | 53 => level(true, f32::MAX),
         52 => level(true, -0.0),
-        54 => level(true, least()),
+        54 => level(true, LEAST),
         57 => level(true, 16777216.0),
         _ => level(true, 20.0),
     }
@@ -150,9 +122,9 @@ fn float_scale(k: usize) -> LevelHeld {
     match k {
         17 => level(true, 0.0),
         18 => level(true, -1.0),
-        19 => level(true, endless()),
+        19 => level(true, f32::INFINITY),
         20 => level(false, 1.0),
-        36 => level(true, least()),
+        36 => level(true, LEAST),
         _ => level(true, 1.0),
     }
 }
@@ -213,13 +185,13 @@ fn hertz(n: usize, b: i64, last: i64) -> GroupHertz {
 fn gains(k: usize) -> GroupGains {
     match k {
         32 => decibels(17, 1.5, -0.0, 0.0),
-        33 => decibels(2, 1.5, endless(), 0.0),
+        33 => decibels(2, 1.5, f32::INFINITY, 0.0),
         34 => decibels(2, 1.5, -0.0, -0.0),
         35 => decibels(0, 1.0, 0.0, 0.0),
         45 | 51 => decibels(2, 1.5, -20.0, 0.0),
-        47 | 53 => decibels(2, largest(), -largest(), 0.0),
+        47 | 53 => decibels(2, f32::MAX, -f32::MAX, 0.0),
         50 | 56 => decibels(0, 0.0, 0.0, 0.0),
-        54 => decibels(2, least(), 0.0, 0.0),
+        54 => decibels(2, LEAST, 0.0, 0.0),
         57 => decibels(2, 1.0, 3.0, 0.0),
         58 => GroupGains {
             n: 16,

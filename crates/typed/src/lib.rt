@@ -1,4 +1,5 @@
-// A record of a kind, written from its values: the raw call on the bytes that they make.
+// A record of a kind, written from its values: the raw call on the bytes that they make. Each takes the order, the
+// slice and the place as `writer::write` does, in whose words its promise is said: a struct of them would say no more.
 #![tactic(auto)]
 
 pub mod band;

@@ -7,7 +7,7 @@ ghost use Rattle.writer.specs.Write.{write_of, written_out, written_said};
 ghost use Rattle.typed.specs.Texts.{text_body};
 
 use num::Order;
-use writer::Written;
+use writer::Unwritten;
 
 // The longest text: the largest body without the four bytes of the length.
 const LONGEST: usize = frame::LIMIT - 4;
@@ -21,7 +21,7 @@ fn room() -> [u8; frame::LIMIT]
 
 // Writes a TEXT record from the bytes of the text: its length goes before it, and zero bytes up to the next multiple of
 // 4 behind it. Refused as `writer::write` is: a text that is too long with 32, one that is not UTF-8 with 15.
-pub fn text(order: Order, bytes: &[u8], out: &mut [u8], place: usize) -> Written
+pub fn text(order: Order, bytes: &[u8], out: &mut [u8], place: usize) -> Result<usize, Unwritten>
     ensures said { written_said result
         ≡ write_of order (code_of K.TEXT) (text_body order bytes.now) (length out.old) place }
     ensures left { out.new
@@ -29,16 +29,14 @@ pub fn text(order: Order, bytes: &[u8], out: &mut [u8], place: usize) -> Written
 {
     let n = bytes.len();
     if out.len() < place {
-        return Written::PastEnd;
+        return Err(Unwritten::PastEnd);
     }
     if LONGEST < n {
-        return Written::BadSize;
+        return Err(Unwritten::BadSize);
     }
     let mut body = room();
-    let head = [n as u32];
-    lay::words(order, &head, &mut body, 0);
+    lay::run(order, &[n as u32], &mut body, 0);
     lay::bytes(bytes, &mut body, 4);
-    let all: &[u8] = &body;
     let end = 4 + (n + 3) / 4 * 4;
-    writer::write(order, body::kinds::TEXT, &all[..end], out, place)
+    writer::write(order, body::kinds::TEXT, &body[..end], out, place)
 }

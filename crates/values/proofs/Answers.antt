@@ -8,6 +8,7 @@ use borrow.Author.Tests.{le-ltb}
 use lib.Ieee.{Float}
 use lib.IntN.{ℤ}
 use lib.ListN.{length}
+use Rattle.std.specs.Prelude.{Result, Ok}
 use Rattle.num.specs.Answer.{gives, refuses, refusal}
 use Rattle.num.specs.declared.Order.{Order}
 use Rattle.frame.specs.Frames.{chunk_bytes}
@@ -18,8 +19,7 @@ use Rattle.body.specs.declared.kinds.Kind.TheVariants as K
 use Rattle.body.specs.declared.levels.Level.TheVariants.{FullScale, TotalGain, FloatFullScale}
 use Rattle.body.specs.declared.numbers.Band.{Band}
 use Rattle.writer.specs.Write.{write_by, write_of, written_out, written_said, laid_by}
-use Rattle.writer.specs.declared.Written.{Written}
-use Rattle.writer.specs.declared.Written.TheVariants.{Next}
+use Rattle.writer.specs.declared.Unwritten.{Unwritten}
 use Rattle.writer.proofs.Laws.{next-given, written}
 use Rattle.writer.proofs.Theorems.{written-told}
 use Rattle.values.specs.Made.{Timed, Made, Fitting, body_of, size_of}
@@ -50,7 +50,7 @@ use Rattle.writer.proofs.patterns.gfnc.Reads as gfnc
 
 -- ---- what follows from the answer of the raw call
 
-module _ (o : Order) (k : Kind) (v : Made k) (fit : Fitting k v) (d : List ℕ) (place : ℕ) (r : Written) (l : List ℕ)
+module _ (o : Order) (k : Kind) (v : Made k) (fit : Fitting k v) (d : List ℕ) (place : ℕ) (r : Result ℕ Unwritten) (l : List ℕ)
     (met : (written_said r ≡ write_of o (code_of k) (body_of k o v) (length d) place) × (l ≡ written_out o (code_of k) (body_of k o v) d place)) where
   abbrev body : List ℕ
   body = body_of k o v
@@ -79,7 +79,7 @@ module _ (o : Order) (k : Kind) (v : Made k) (fit : Fitting k v) (d : List ℕ) 
         (ap refusal (met.0 ∙ w), met.1 ∙ ap (λ a. laid_by a d place (chunk_bytes o (code_of k) body)) w);
     written = λ e h.
         let w = written-said e h in
-        (written-told r (Next (place + 12 + size_of k v)) (met.0 ∙ w), met.1 ∙ ap (λ a. laid_by a d place (chunk_bytes o (code_of k) body)) w);
+        (written-told r (Ok (place + 12 + size_of k v)) (met.0 ∙ w), met.1 ∙ ap (λ a. laid_by a d place (chunk_bytes o (code_of k) body)) w);
     back = λ next e. values-back o k v fit (next-given o (code_of k) body (length d) place next (sym met.0 ∙ ap written_said e)).0;
   }
 

@@ -18,7 +18,7 @@ use Rattle.num.specs.Choice.{pick, both, either, each}
 use Rattle.num.specs.Number.{unsigned_at}
 use Rattle.num.specs.declared.Order.{Order}
 use Rattle.num.proofs.Laws.{bytes-length}
-use Rattle.num.proofs.Tests.{each-at}
+use Rattle.num.proofs.Tests.{each-at, each-same}
 use Rattle.body.specs.Groups.{listed, head_ok, offset_at, offsets_ok, packed, hertz_at, tuned, gain_at, amplified, giqp, gcf, grg}
 use Rattle.body.specs.Levels.{is_finite}
 use Rattle.body.specs.Lists.{upto, sixteen}
@@ -34,14 +34,9 @@ use Rattle.typed.proofs.Groups.{counted-back, counted-many, packing-is, packing-
 use Rattle.typed.proofs.Numbers.{number-at}
 use Rattle.values.specs.Made.{Fitting}
 use Rattle.values.specs.Says.{unless, packing_ok, gains_finite, used_packing, used_hertz, used_gains, says}
-use Rattle.values.proofs.Numbers.{allowed-is}
+use Rattle.values.proofs.Numbers.{unless-is}
 
--- ---- lists and tests that agree below n
-
-each-same : (f g : ℕ → Bool) (n : ℕ) → ((c : ℕ) → c < n → f c ≡ g c) → each f n ≡ each g n
-unfolding each
-each-same f g zero h = refl
-each-same f g (suc n) h = rw (each-same f g n (λ c k. h c (omega arith)), h n (omega arith))
+-- ---- lists that agree below n
 
 module _ {A : Type 0} (f g : ℕ → A) (d : A) (n : ℕ) (same : (c : ℕ) → c < n → f c ≡ g c) where
   place-same : (i : ℕ) (b : Bool) → ltb i n ≡ b → pick b (f i) d ≡ pick b (g i) d
@@ -159,7 +154,7 @@ module _ (o : Order) (g : GroupGains) (fit : Fitting GRG g) where
       let d = of_bits binary32 0 in
       let at : (c : ℕ) → c < g.n → gain_at o (gains_body o g) c ≡ get_or g.values c d = gain-at o g few many fit.0 fit.1 in
       rw (each-same (λ c. is_finite (gain_at o (gains_body o g) c)) (λ c. is_finite (get_or g.values c d)) g.n (λ c h. ap is_finite (at c h)), sixteen-same (gain_at o (gains_body o g)) (λ c. get_or g.values c d) d g.n at)
-      (allowed-is (gains_finite g) (used_gains g))
+      (unless-is 12 (gains_finite g) (used_gains g))
 
   -- and of gains.
   pub gains-said : grg o (gains_body o g) ≡ says GRG g

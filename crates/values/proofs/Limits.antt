@@ -1,6 +1,6 @@
 -- The numbers with which values are refused, 32 among them, in plain tests of the values: 32 comes of texts and samples
 -- that are too long, and of 16-bit numbers that do not fill whole words, and of nothing else.
-use Prim.Native.Nat.{ℕ, ◌+◌, ◌*◌, ◌%◌, ◌^◌, ◌≤◌, ◌<◌}
+use Prim.Native.Nat.{ℕ, ◌+◌, ◌*◌, ◌%◌, ◌^◌, ◌≤◌}
 use mathlib.Core.Path.{◌≡◌, refl, ◌∙◌}
 use mathlib.Core.Bool.{Bool, true, false}
 use mathlib.Core.List.{List}
@@ -10,20 +10,22 @@ use borrow.Author.Tests.{eq-eqb, lt-ltb, le-leb, lt-leb, leb-true, leb-false, eq
 use lib.Dec.{eqb, leb, ltb}
 use lib.IntN.{ℤ}
 use lib.ListN.{length}
+use Rattle.std.specs.Cmp.{both_ways}
+use Rattle.std.specs.Prelude.{None}
 use Rattle.num.specs.Answer.{Answer, refuses}
 use Rattle.num.specs.Choice.{pick, both}
+use Rattle.num.proofs.Tests.{both-whole}
 use Rattle.text.specs.Utf8.{is_utf8}
 use Rattle.frame.specs.Place.{good_size}
 use Rattle.body.specs.Plain.{padded}
 use Rattle.body.specs.Table.{shaped}
 use Rattle.body.specs.declared.kinds.Kind.{Kind}
 use Rattle.body.specs.declared.kinds.Kind.TheVariants.{SSNC, SSNR, SFNC, SFNR, GSNC, GFNC, SIQP, SR, BW, GCBW, BWOF, CF, DBFS, DBTG, FFS, GIQP, GCF, GRG, SOFH, EOFH, IQDC, TEXT, Unknown}
-use Rattle.body.specs.declared.sampled.Shaped.TheVariants.{NoSamples}
 use Rattle.writer.specs.Write.{may_by}
 use Rattle.typed.specs.Groups.{at_most}
 use Rattle.values.specs.Made.{Timed, Made, size_of}
 use Rattle.values.specs.Says.{unless, whole, judged, may}
-use Rattle.values.proofs.Samples.{whole-by}
+use Rattle.values.proofs.Samples.{whole-same}
 
 -- ---- the kinds of few bytes
 
@@ -37,7 +39,7 @@ at-most n false e = ltb-false 16 n e
 few : (n : ℕ) → at_most 16 n ≤ 16
 few n = at-most n (ltb 16 n) refl
 
-never-large : (k : Kind) → shaped k ≡ NoSamples → (k ≡ TEXT → ⊥) → (v : Made k) → good_size (size_of k v) ≡ true
+never-large : (k : Kind) → shaped k ≡ None → (k ≡ TEXT → ⊥) → (v : Made k) → good_size (size_of k v) ≡ true
 unfolding shaped
 never-large SSNC e h v = let z : ◌≡◌ {A = ℕ} 0 1 = cc in absurd (omega arith)
 never-large SSNR e h v = let z : ◌≡◌ {A = ℕ} 0 1 = cc in absurd (omega arith)
@@ -65,20 +67,13 @@ never-large TEXT e h t = absurd (h refl)
 
 -- Of a kind that has no samples, and is not TEXT, values may be written or are refused just as their row says: never
 -- with 32.
-pub row-may : (k : Kind) (v : Made k) → shaped k ≡ NoSamples → (k ≡ TEXT → ⊥) → may k v ≡ judged k v
+pub row-may : (k : Kind) (v : Made k) → shaped k ≡ None → (k ≡ TEXT → ⊥) → may k v ≡ judged k v
 row-may k v e h = rw (never-large k e h v)
 
 -- ---- two tests that say the same
 
-leb-by : (a b c d : ℕ) (t : Bool) → leb c d ≡ t → (a ≤ b → c ≤ d) → (c ≤ d → a ≤ b) → leb a b ≡ t
-leb-by a b c d true e f g = le-leb a b (g (leb-true c d e))
-leb-by a b c d false e f g = let h = leb-false c d e in lt-leb a b (not-le (λ k. let i = f k in omega arith))
-  where
-    not-le : (a ≤ b → ⊥) → b < a
-    not-le h = omega arith
-
 leb-same : (a b c d : ℕ) → (a ≤ b → c ≤ d) → (c ≤ d → a ≤ b) → leb a b ≡ leb c d
-leb-same a b c d f g = leb-by a b c d (leb c d) refl f g
+leb-same a b c d f g = both_ways (leb a b) (leb c d) (λ e. le-leb c d (f (leb-true a b e))) (λ e. le-leb a b (g (leb-true c d e)))
 
 -- ---- TEXT
 
@@ -101,17 +96,13 @@ text-may t = text-by (length t) (unless 15 (is_utf8 t)) (leb (length t) 69628) r
 shorts-words : (n : ℕ) → eqb ((8 + n * 2) % 4) 0 ≡ eqb (n % 2) 0
 shorts-words n =
     let e : 8 + n * 2 ≡ n * 2 + 4 * 2 = omega arith in
-    rw (e, add-mul-mod_self_left (n * 2) 4 2) (whole-by 2 2 (omega arith) n (eqb (n % 2) 0) refl)
+    rw (e, add-mul-mod_self_left (n * 2) 4 2) (whole-same 2 2 (omega arith) n)
 
 shorts-good : (n : ℕ) → good_size (8 + n * 2) ≡ both (leb n 34812) (eqb (n % 2) 0)
 shorts-good n = rw (leb-same (8 + n * 2) 69632 n 34812 (λ h. omega arith) (λ h. omega arith), shorts-words n)
 
 patterns-good : (n : ℕ) → good_size (8 + n * 4) ≡ leb n 17406
-patterns-good n = rw (eq-eqb ((8 + n * 4) % 4) 0 (omega arith), leb-same (8 + n * 4) 69632 n 17406 (λ h. omega arith) (λ h. omega arith)) (both-all (leb n 17406))
-  where
-    both-all : (b : Bool) → both b true ≡ b
-    both-all true = refl
-    both-all false = refl
+patterns-good n = rw (eq-eqb ((8 + n * 4) % 4) 0 (omega arith), leb-same (8 + n * 4) 69632 n 17406 (λ h. omega arith) (λ h. omega arith)) (both-whole (leb n 17406))
 
 -- where the numbers fill words they are whole samples
 filled-by : (n per : ℕ) (a b : Bool) → eqb (n % 2) 0 ≡ b → (n % 2 ≡ 0 → n % per ≡ 0) →

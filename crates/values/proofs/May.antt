@@ -14,7 +14,6 @@ use mir.Syntax.{w32, w64}
 use mir.Val.{of_z}
 use Rattle.num.specs.Answer.{Answer, gives, refuses, then}
 use Rattle.num.specs.Choice.{pick}
-use Rattle.num.specs.Number.{bytes_of}
 use Rattle.num.specs.declared.Order.{Order}
 use Rattle.num.proofs.Laws.{bytes-length}
 use Rattle.body.specs.Kind.{code_of, known, kind_in, kind_of}
@@ -22,8 +21,8 @@ use Rattle.body.specs.Table.{Row, sets, marks, leaves, samples, unknown, row}
 use Rattle.body.specs.Verdict.{seen, verdict_by, verdict}
 use Rattle.body.specs.declared.kinds.Kind.{Kind}
 use Rattle.body.specs.declared.kinds.Kind.TheVariants.{SSNC, SSNR, SFNC, SFNR, GSNC, GFNC, SIQP, SR, BW, GCBW, BWOF, CF, DBFS, DBTG, FFS, GIQP, GCF, GRG, SOFH, EOFH, IQDC, TEXT, Unknown}
-use Rattle.lay.specs.Runs.{run_of}
-use Rattle.lay.proofs.Values.{run_length}
+use Rattle.lay.specs.Numbers.{numbers_of}
+use Rattle.lay.proofs.Numbers.{numbers_length}
 use Rattle.writer.specs.Write.{may_by, may_write}
 use Rattle.writer.proofs.Bodies.{body-length}
 use Rattle.typed.specs.Groups.{at_most, packing_body, hertz_body, gains_body}
@@ -43,9 +42,9 @@ used n xs m false e = let h = ltb-false 16 n e in length-take-le n xs (omega ari
 
 -- their bytes, w each
 run-used : {A : Type 0} (o : Order) (w n : ℕ) (pattern : A → ℕ) (xs : List A) → length xs ≡ 16 →
-    length (run_of (λ x. bytes_of o w (pattern x)) (take n xs)) ≡ w * at_most 16 n
+    length (numbers_of o w pattern (take n xs)) ≡ w * at_most 16 n
 run-used o w n pattern xs m =
-    run_length (λ x. bytes_of o w (pattern x)) w (λ x. bytes-length o w (pattern x)) (take n xs)
+    numbers_length o w pattern (take n xs)
     ∙ ap (λ (i : ℕ). i * w) (used n xs m (ltb 16 n) refl)
     ∙ mul_comm (at_most 16 n) w
 

@@ -1,4 +1,5 @@
 -- Reading what the values of the kinds of fixed size make says what their row says of the values.
+use Prim.Native.Nat.{ℕ}
 use mathlib.Core.Path.{◌≡◌, refl}
 use mathlib.Core.Bool.{Bool, true, false}
 use mathlib.Core.List.{◌++◌}
@@ -9,8 +10,8 @@ use lib.IntN.{ℤ, pos}
 use lib.Signed.{le_z}
 use mir.Syntax.{w32, w64}
 use mir.Val.{SFits, of_z}
-use Rattle.num.specs.Answer.{gives, then}
-use Rattle.num.specs.Choice.{both}
+use Rattle.num.specs.Answer.{gives, refuses, then}
+use Rattle.num.specs.Choice.{pick, both}
 use Rattle.num.specs.declared.Order.{Order}
 use Rattle.num.proofs.Laws.{bytes-length}
 use Rattle.body.specs.Check.{allowed}
@@ -26,16 +27,16 @@ use Rattle.typed.proofs.Numbers.{int32-back, int64-back, float32-back, first-bac
 use Rattle.values.specs.Made.{Fitting}
 use Rattle.values.specs.Says.{unless, says}
 
--- a value that is allowed or refused with 12, as the table has it
-pub allowed-is : {A : Type 0} (ok : Bool) (x : A) → allowed ok x ≡ then (unless 12 ok) (λ _. gives x)
-allowed-is true x = refl
-allowed-is false x = refl
+-- a value that is given or refused with a number, as the table has it
+pub unless-is : {A : Type 0} (n : ℕ) (ok : Bool) (x : A) → pick ok (gives x) (refuses n) ≡ then (unless n ok) (λ _. gives x)
+unless-is n true x = refl
+unless-is n false x = refl
 
 -- FFS_: finite first, then above 0
 scale-is : (finite : Bool) (x : Float) →
     then (then (unless 12 finite) (λ _. gives x)) (λ y. allowed (lt (of_bits binary32 0) y) (FloatFullScale y))
     ≡ then (unless 12 (both finite (lt (of_bits binary32 0) x))) (λ _. gives (FloatFullScale x))
-scale-is true x = allowed-is (lt (of_bits binary32 0) x) (FloatFullScale x)
+scale-is true x = unless-is 12 (lt (of_bits binary32 0) x) (FloatFullScale x)
 scale-is false x = refl
 
 -- what comes of a value that is given or refused with 12
@@ -46,11 +47,11 @@ then-is false x f = refl
 module _ (o : Order) where
   -- Reading the body of a value says what the row of its kind says of the value.
   pub siqp-said : (x : ℤ) → SFits w32 x → siqp o (int32 o x) ≡ says SIQP x
-  siqp-said x f = rw (eq-eqb _ _ (bytes-length o 4 (of_z w32 x)), int32-back o x f) (allowed-is (zero_or_one x) x)
+  siqp-said x f = rw (eq-eqb _ _ (bytes-length o 4 (of_z w32 x)), int32-back o x f) (unless-is 12 (zero_or_one x) x)
 
   -- SR__ at 1, and BW__ and GCBW at 0
   pub least-said : (least x : ℤ) → SFits w64 x → at_least least o (int64 o x) ≡ then (unless 12 (le_z least x)) (λ _. gives x)
-  least-said least x f = rw (eq-eqb _ _ (bytes-length o 8 (of_z w64 x)), int64-back o x f) (allowed-is (le_z least x) x)
+  least-said least x f = rw (eq-eqb _ _ (bytes-length o 8 (of_z w64 x)), int64-back o x f) (unless-is 12 (le_z least x) x)
 
   band-by : (b : Band) (ok : Bool) → le_z (pos 0) b.width ≡ ok → SFits w64 b.width → SFits w64 b.offset →
       bwof o (int64 o b.width ++ int64 o b.offset) ≡ then (unless 12 ok) (λ _. gives b)
@@ -61,7 +62,7 @@ module _ (o : Order) where
   bwof-said b f = band-by b (le_z (pos 0) b.width) refl f.0 f.1
 
   finite-said : (x : Float) → T (fits binary32 x) → finite32 o (float32 o x) ≡ then (unless 12 (is_finite x)) (λ _. gives x)
-  finite-said x f = rw (eq-eqb _ _ (bytes-length o 4 (to_bits binary32 x)), float32-back o x f) (allowed-is (is_finite x) x)
+  finite-said x f = rw (eq-eqb _ _ (bytes-length o 4 (to_bits binary32 x)), float32-back o x f) (unless-is 12 (is_finite x) x)
 
   pub dbfs-said : (x : Float) → T (fits binary32 x) → dbfs o (float32 o x) ≡ says DBFS x
   dbfs-said x f = rw (finite-said x f) (then-is (is_finite x) x FullScale)

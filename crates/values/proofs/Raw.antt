@@ -7,6 +7,7 @@ use native.Mathlib.Omega.{arith}
 use borrow.Author.Tests.{eq-eqb, ne_eqb, lt-leb}
 use lib.Dec.{leb}
 use lib.ListN.{length, drop}
+use Rattle.std.specs.Prelude.{Some}
 use Rattle.num.specs.Answer.{Answer, refuses}
 use Rattle.num.specs.Number.{unsigned_at}
 use Rattle.num.specs.declared.Order.{Order}
@@ -24,7 +25,6 @@ use Rattle.body.specs.declared.groups.GroupGains.{GroupGains}
 use Rattle.body.specs.declared.kinds.Kind.{Kind}
 use Rattle.body.specs.declared.kinds.Kind.TheVariants.{TEXT}
 use Rattle.body.specs.declared.sampled.Shape.{Shape}
-use Rattle.body.specs.declared.sampled.Shaped.TheVariants.{Samples}
 use Rattle.body.proofs.GroupLaws.{listed-short, listed-none, listed-many, listed-size}
 use Rattle.body.proofs.Texts.{text-short, text-negative, text-length}
 use Rattle.writer.specs.Write.{may_write}
@@ -122,14 +122,14 @@ module _ (o : Order) (body : List ℕ) where
 -- ---- samples
 
 -- a kind with samples is read by their shape
-shape-by : (r : Row) (shape : Shape) (o : Order) (body : List ℕ) → shaped_by r ≡ Samples shape → verdict_by r o body ≡ seen (data_of shape o body)
+shape-by : (r : Row) (shape : Shape) (o : Order) (body : List ℕ) → shaped_by r ≡ Some shape → verdict_by r o body ≡ seen (data_of shape o body)
 shape-by (sets x hold read) shape o body e = let z : ◌≡◌ {A = ℕ} 0 1 = cc in absurd (omega arith)
 shape-by (marks read) shape o body e = let z : ◌≡◌ {A = ℕ} 0 1 = cc in absurd (omega arith)
 shape-by (leaves read) shape o body e = let z : ◌≡◌ {A = ℕ} 0 1 = cc in absurd (omega arith)
 shape-by (samples s) shape o body e = let q : s ≡ shape = cc in rw q
 shape-by unknown shape o body e = let z : ◌≡◌ {A = ℕ} 0 1 = cc in absurd (omega arith)
 
-module _ (o : Order) (body : List ℕ) (k : Kind) (shape : Shape) (e : shaped k ≡ Samples shape) where
+module _ (o : Order) (body : List ℕ) (k : Kind) (shape : Shape) (e : shaped k ≡ Some shape) where
   -- Number 11: a body of a data kind without a whole time,
   pub no-time : length body < 8 → verdict o k body ≡ refuses 11
   unfolding verdict shaped

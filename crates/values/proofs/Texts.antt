@@ -18,6 +18,7 @@ use Rattle.body.proofs.Texts.{text-negative, text-length}
 use Rattle.typed.specs.Texts.{text_body}
 use Rattle.typed.proofs.Texts.{text-size, length-back, text-read}
 use Rattle.values.specs.Says.{unless, says}
+use Rattle.values.proofs.Numbers.{unless-is}
 
 module _ (o : Order) (t : List ℕ) where
   -- a text of 2^31 bytes or more: the number in front is negative, or it is not the text's length
@@ -35,12 +36,8 @@ module _ (o : Order) (t : List ℕ) where
       let s = text-size o t in
       sym (text-length o (text_body o t) u e (omega arith) a) ∙ rw (ne_eqb (length (text_body o t)) (4 + padded u) (λ q. omega arith))
 
-  utf8-is : (b : Bool) → pick b (gives (length t)) (refuses 15) ≡ then (unless 15 b) (λ _. gives (length t))
-  utf8-is true = refl
-  utf8-is false = refl
-
   said-by : (short : Bool) → ltb (length t) (2 ^ 31) ≡ short → text o (text_body o t) ≡ then (pick short (unless 15 (is_utf8 t)) (refuses 11)) (λ _. gives (length t))
-  said-by true e = text-read o t (ltb-true (length t) (2 ^ 31) e) ∙ utf8-is (is_utf8 t)
+  said-by true e = text-read o t (ltb-true (length t) (2 ^ 31) e) ∙ unless-is 15 (is_utf8 t) (length t)
   said-by false e = long-by (unsigned_at 4 o (text_body o t) 0) _ _ refl refl refl (ltb-false (length t) (2 ^ 31) e)
 
   -- Reading the body of a text says what the row says of the text, for every text.

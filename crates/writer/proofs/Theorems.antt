@@ -8,6 +8,8 @@ use native.Mathlib.Nat.{add-zero, zero-add}
 use lib.Dec.{eqb}
 use lib.ListN.{length, take, drop, length-append}
 use lib.Seq.{take_at, drop_at, length-take-le}
+use Rattle.std.specs.Prelude.{Result, Ok, Err}
+use Rattle.std.specs.Result.{result_unwrap_or}
 use Rattle.num.specs.Answer.{Answer, gives, refuses}
 use Rattle.num.specs.Choice.{pick}
 use Rattle.num.specs.Number.{bytes_of}
@@ -24,10 +26,10 @@ use Rattle.frame.proofs.Frames.{chunk-shows, frames-nil, moves, first-sized}
 use Rattle.frame.proofs.Theorems.{bytes-whole}
 use Rattle.body.specs.declared.faults.Fault.TheVariants as F
 use Rattle.writer.specs.Inner.Write.{header_bytes}
-use Rattle.writer.specs.Write.{write_of, written_said}
+use Rattle.writer.specs.Write.{write_of, written_said, written_reply}
 use Rattle.writer.specs.Records.{Record, chunk_of, records_of, Each, IsChunk, Taken, WellFormed, Typed, written_all, write_all}
-use Rattle.writer.specs.declared.Written.{Written}
-use Rattle.writer.specs.declared.Written.TheVariants.{Next, PastEnd, BadSize, Malformed, NoRoom}
+use Rattle.writer.specs.declared.Unwritten.{Unwritten}
+use Rattle.writer.specs.declared.Unwritten.TheVariants.{PastEnd, BadSize, Malformed, NoRoom}
 use Rattle.writer.proofs.Laws.{header-length, taken-size, written}
 
 -- ---- records are read back
@@ -152,8 +154,8 @@ stream-written-back o s d g h v f =
 
 -- ---- the answer's cases say different things, so the promise fixes the case
 
--- the case that says a number
-abbrev refusal : ℕ → Written
+-- the refusal that says a number
+abbrev refusal : ℕ → Unwritten
 refusal n =
     pick (eqb n 2) PastEnd
     (pick (eqb n 32) BadSize
@@ -164,20 +166,25 @@ refusal n =
     (pick (eqb n 14) (Malformed F.Padding)
     (Malformed F.Text)))))))
 
-abbrev unsaid : Answer ℕ → Written
-unsaid (gives place) = Next place
-unsaid (refuses n) = refusal n
+abbrev unsaid : Answer ℕ → Result ℕ Unwritten
+unsaid (gives place) = Ok place
+unsaid (refuses n) = Err (refusal n)
 
-unsaid-said : (a : Written) → unsaid (written_said a) ≡ a
-unsaid-said (Next place) = refl
-unsaid-said PastEnd = refl
-unsaid-said BadSize = refl
-unsaid-said (Malformed F.Size) = refl
-unsaid-said (Malformed F.Value) = refl
-unsaid-said (Malformed F.Count) = refl
-unsaid-said (Malformed F.Padding) = refl
-unsaid-said (Malformed F.Text) = refl
-unsaid-said NoRoom = refl
+unsaid-said : (a : Result ℕ Unwritten) → unsaid (written_said a) ≡ a
+unsaid-said (Ok place) = refl
+unsaid-said (Err PastEnd) = refl
+unsaid-said (Err BadSize) = refl
+unsaid-said (Err (Malformed F.Size)) = refl
+unsaid-said (Err (Malformed F.Value)) = refl
+unsaid-said (Err (Malformed F.Count)) = refl
+unsaid-said (Err (Malformed F.Padding)) = refl
+unsaid-said (Err (Malformed F.Text)) = refl
+unsaid-said (Err NoRoom) = refl
 
-pub written-told : (a b : Written) → written_said a ≡ written_said b → a ≡ b
+pub written-told : (a b : Result ℕ Unwritten) → written_said a ≡ written_said b → a ≡ b
 written-told a b e = sym (unsaid-said a) ∙ ap unsaid e ∙ unsaid-said b
+
+-- Where the next record goes is std's unwrap_or: past the one that was written; with a refusal, the place of the refused call.
+pub next-place : (from : ℕ) (a : Result ℕ Unwritten) → result_unwrap_or a from ≡ (written_reply from a).value
+next-place from (Ok place) = refl
+next-place from (Err refused) = refl

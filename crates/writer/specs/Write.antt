@@ -1,6 +1,6 @@
 -- Writing one record, its type and its body, at a place of a slice: the answer, and what the slice holds afterwards.
-use Rattle.std.specs.Prelude.{ℕ, ◌+◌, ◌-◌, List, ltb, length}
-use Rattle.num.specs.Answer.{Answer, gives, refuses, Reply, reply_with, then}
+use Rattle.std.specs.Prelude.{ℕ, ◌+◌, ◌-◌, List, ltb, length, Result}
+use Rattle.num.specs.Answer.{Answer, gives, refuses, answered, Reply, reply_with, then}
 use Rattle.num.specs.Choice.{pick}
 use Rattle.num.specs.declared.Order.{Order}
 use Rattle.lay.specs.Splice.{splice}
@@ -9,8 +9,8 @@ use Rattle.frame.specs.Frames.{chunk_bytes}
 use Rattle.body.specs.Fault.{fault_number}
 use Rattle.body.specs.Kind.{kind_of}
 use Rattle.body.specs.Verdict.{verdict}
-use Rattle.writer.specs.declared.Written.{Written}
-use Rattle.writer.specs.declared.Written.TheVariants.{Next, PastEnd, BadSize, Malformed, NoRoom}
+use Rattle.writer.specs.declared.Unwritten.{Unwritten}
+use Rattle.writer.specs.declared.Unwritten.TheVariants.{PastEnd, BadSize, Malformed, NoRoom}
 
 -- a record of so many bytes, with the verdict on its body, may be written: 32 where its size is not good, then 11 to 15
 abbrev pub may_by : Answer (Unit {0}) → ℕ → Answer (Unit {0})
@@ -40,14 +40,17 @@ laid_by (refuses n) d place vs = d
 abbrev pub written_out : Order → ℕ → List ℕ → List ℕ → ℕ → List ℕ
 written_out o code body d place = laid_by (write_of o code body (length d) place) d place (chunk_bytes o code body)
 
--- what each case of the answer says
-abbrev pub written_said : Written → Answer ℕ
-written_said (Next place) = gives place
-written_said PastEnd = refuses 2
-written_said BadSize = refuses 32
-written_said (Malformed fault) = refuses (fault_number fault)
-written_said NoRoom = refuses 31
+-- the number of each refusal
+abbrev pub unwritten_number : Unwritten → ℕ
+unwritten_number PastEnd = 2
+unwritten_number BadSize = 32
+unwritten_number (Malformed fault) = fault_number fault
+unwritten_number NoRoom = 31
+
+-- what each case of the answer says: the next place, or the number of the refusal
+abbrev pub written_said : Result ℕ Unwritten → Answer ℕ
+written_said = answered unwritten_number
 
 -- its number, and the place that goes with it: with a refusal, the place as it came
-abbrev pub written_reply : ℕ → Written → Reply ℕ
+abbrev pub written_reply : ℕ → Result ℕ Unwritten → Reply ℕ
 written_reply came a = reply_with came (written_said a)

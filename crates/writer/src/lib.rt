@@ -5,23 +5,23 @@ mod data;
 pub mod patterns;
 pub mod shorts;
 
-ghost use Rattle.std.specs.Prelude.{◌≡◌, ◌+◌, ◌≤◌, ◌<◌, length};
-ghost use Rattle.num.specs.Answer.{refusal};
+ghost use Rattle.std.specs.Prelude.{◌≡◌, ◌+◌, ◌≤◌, ◌<◌, IfOk, length};
+ghost use Rattle.num.specs.Answer.{Answer};
 ghost use Rattle.frame.specs.Frames.{chunk_bytes};
-ghost use Rattle.frame.specs.Place.{header_size};
+ghost use Rattle.frame.specs.Place.{header_size, size_limit};
 ghost use Rattle.lay.specs.Splice.{splice};
-ghost use Rattle.writer.specs.Inner.Write.{header_bytes, is_good};
-ghost use Rattle.writer.specs.Write.{write_of, written_out, written_reply, written_said};
+ghost use Rattle.writer.specs.Inner.Write.{header_bytes, Judges};
+ghost use Rattle.writer.specs.declared.Unwritten.TheVariants.{Malformed};
+ghost use Rattle.writer.specs.Write.{write_by, write_of, written_out, written_said, unwritten_number};
 
-use body::{Checked, Fault};
-use num::Order;
+use body::Fault;
+use num::{Numbered, Order};
 pub use patterns::{gfnc, sfnc, sfnr};
 pub use shorts::{gsnc, ssnc, ssnr};
 
-// What writing a record answers: the place past its chunk, or why nothing was written.
-#[derive(Clone, Copy)]
-pub enum Written {
-    Next(usize),
+// Why a record was not written.
+#[derive(Clone, Copy, PartialEq, Eq)]
+pub enum Unwritten {
     // The place is past the end of the slice: number 2.
     PastEnd,
     // The body's size is not good: number 32.
@@ -32,44 +32,41 @@ pub enum Written {
     NoRoom,
 }
 
-impl Written {
-    // The number of the refusal: 2, 32, 11 to 15 or 31; 0 where a record was written.
-    pub fn number(self) -> u32
-        ensures { result ≡ refusal (written_said self) }
-    {
-        match self {
-            Written::Next(_) => 0,
-            Written::PastEnd => 2,
-            Written::BadSize => 32,
-            Written::Malformed(fault) => fault.number(),
-            Written::NoRoom => 31,
-        }
-    }
+// The number of the refusal: 2, 32, 11 to 15 or 31. A match, since a malformed body has the number of its fault.
+impl Numbered for Unwritten {
+    ghost number_of = { unwritten_number };
 
-    // Where the next record goes: past the one that was written; with a refusal at `from`, the place of the refused call.
-    pub fn place(self, from: usize) -> usize
-        ensures { result ≡ (written_reply from self).value }
-    {
+    fn number(self) -> u32 {
         match self {
-            Written::Next(next) => next,
-            Written::PastEnd => from,
-            Written::BadSize => from,
-            Written::Malformed(_) => from,
-            Written::NoRoom => from,
+            Unwritten::PastEnd => 2,
+            Unwritten::BadSize => 32,
+            Unwritten::Malformed(fault) => fault.number(),
+            Unwritten::NoRoom => 31,
         }
     }
 }
 
-// A header: sync word, type and size.
+impl From<Fault> for Unwritten {
+    ghost from_gives = { λ fault e. e ≡ Malformed fault };
+
+    fn from(fault: Fault) -> Unwritten {
+        Unwritten::Malformed(fault)
+    }
+}
+
+// A header: sync word, type and size. Order, type, slice and place go from call to call as `write` is given them: a
+// struct of them would be made and taken apart in each.
+#[tactic(auto, using(crate::proofs::Laws::laid))]
 fn put_header(order: Order, code: u32, size: u32, out: &mut [u8], place: usize)
     requires { place + header_size ≤ length out.old }
     ensures { out.new ≡ splice out.old place (header_bytes order code size) }
 {
     let words = [frame::SYNC, code, size];
-    lay::words(order, &words, out, place);
+    lay::run(order, &words, out, place);
 }
 
 // A whole chunk: header and body.
+#[tactic(auto, using(crate::proofs::Laws::laid))]
 fn put_chunk(order: Order, code: u32, body: &[u8], out: &mut [u8], place: usize)
     requires room { place + header_size + length body.now ≤ length out.old }
     requires small { length body.now < 4294967296 }
@@ -80,48 +77,51 @@ fn put_chunk(order: Order, code: u32, body: &[u8], out: &mut [u8], place: usize)
     lay::bytes(body, out, place + frame::HEADER);
 }
 
-// Whether a verdict finds nothing wrong.
-fn is_good(checked: Checked) -> bool
-    ensures { result ≡ is_good checked }
-{
-    match checked {
-        Checked::Good => true,
-        Checked::Malformed(_) => false,
-    }
-}
-
-// The answer for a slice of `whole` bytes. The room counts only where the body is well-formed.
-fn answer(order: Order, code: u32, body: &[u8], whole: usize, place: usize) -> Written
-    ensures { written_said result ≡ write_of order code body.now whole place }
+// The place past a chunk whose body has `size` bytes, at a place of a slice of `whole` bytes, or why it is not written.
+// The body is judged where its size is good, and the room counts where it is well-formed.
+fn place_past<J: FnOnce() -> Result<(), Fault>>(
+    size: usize,
+    whole: usize,
+    place: usize,
+    judge: J,
+) -> Result<usize, Unwritten>
+    requires { J.pre judge }
+    ensures room { IfOk result (λ _. (size ≤ size_limit) × (place + header_size + size ≤ whole)) }
+    ensures said { (judged : Answer (Unit {0})) → Judges (J.post judge) judged
+        → written_said result ≡ write_by judged size whole place }
 {
     if whole < place {
-        return Written::PastEnd;
+        return Err(Unwritten::PastEnd);
     }
-    let size = body.len();
     if !frame::good_size(size) {
-        return Written::BadSize;
+        return Err(Unwritten::BadSize);
     }
-    let checked = body::check(order, body::kind_of(code), body);
-    let short = whole - place < frame::HEADER + size;
-    if is_good(checked) & short {
-        return Written::NoRoom;
+    judge()?;
+    if whole - place < frame::HEADER + size {
+        return Err(Unwritten::NoRoom);
     }
-    match checked {
-        Checked::Malformed(f) => Written::Malformed(f),
-        Checked::Good => Written::Next(place + frame::HEADER + size),
-    }
+    Ok(place + frame::HEADER + size)
 }
 
-// Writes a record, its type and its body, as a chunk at a place of out, and answers Next with the place past it.
-// Refused, in this order: PastEnd 2, BadSize 32, Malformed 11 to 15 where the type is known and the body breaks its
-// rule, NoRoom 31. A refused call leaves out as it was. What the chunk does not fill keeps its bytes.
-pub fn write(order: Order, code: u32, body: &[u8], out: &mut [u8], place: usize) -> Written
+// Writes a record, its type and its body, as a chunk at a place of out, and answers with the place past it. Refused, in
+// this order: PastEnd 2, BadSize 32, Malformed 11 to 15 where the type is known and the body breaks its rule, NoRoom
+// 31. A refused call leaves out as it was. What the chunk does not fill keeps its bytes.
+pub fn write(
+    order: Order,
+    code: u32,
+    body: &[u8],
+    out: &mut [u8],
+    place: usize,
+) -> Result<usize, Unwritten>
     ensures said { written_said result ≡ write_of order code body.now (length out.old) place }
     ensures left { out.new ≡ written_out order code body.now out.old place }
 {
-    let answered = answer(order, code, body, out.len(), place);
-    if let Written::Next(_) = answered {
-        put_chunk(order, code, body, out, place);
-    }
-    answered
+    let next = place_past(
+        body.len(),
+        out.len(),
+        place,
+        || body::check(order, body::kind_of(code), body),
+    )?;
+    put_chunk(order, code, body, out, place);
+    Ok(next)
 }

@@ -7,15 +7,12 @@ use Rattle.reader.specs.Step.{new_cursor, after, Fit}
 use Rattle.bench.specs.Plain.{sound_count}
 use Rattle.bench.proofs.walk.Given as goal
 
-abbrev pub invariant-loop-cursor : goal.invariant-loop-cursor
-invariant-loop-cursor l = record {
+abbrev pub invariant-loop : goal.invariant-loop
+invariant-loop l = record {
   fit : Fit l.cursor;
   within : l.cursor.place ≤ length l.s;
-  fewer : l.k ≤ l.cursor.place;
-  most : l.n ≤ l.k;
-  sum : l.n + sound_count (ahead l.order l.s l.cursor) ≡ sound_count (items l.order l.s);
-  left : after (l.steps - l.k) l.order l.s l.cursor ≡ after l.steps l.order l.s new_cursor;
+  fewer : l.counter ≤ l.cursor.place;
+  most : l.sound ≤ l.counter;
+  sum : l.sound + sound_count (ahead l.order l.s l.cursor) ≡ sound_count (items l.order l.s);
+  left : after (l.steps - l.counter) l.order l.s l.cursor ≡ after l.steps l.order l.s new_cursor;
 }
-
-abbrev pub decreases-loop-cursor : goal.decreases-loop-cursor
-decreases-loop-cursor l = length l.s - l.cursor.place

@@ -1,18 +1,15 @@
--- The first offset that is not its unit decides; else one more turn tests one offset more.
-use Rattle.std.proofs.Common.{sym, arith, eq-eqb}
-use borrow.Author.Tests.{ne_eqb}
-use Rattle.num.proofs.Tests.{each-none, each-next, each-stop}
+-- `all` asks each offset with its place.
+use Rattle.std.proofs.Common.{ℕ, ◌*◌, ◌∙◌, eqb, rules}
+use Rattle.std.proofs.lemmas.Iterator.{YieldsList-from_slice}
+use Rattle.std.proofs.lemmas.Iterator.Consumers.{YieldsList-from_enumerate}
+use Rattle.std.proofs.lemmas.Iterator.Search.{all_from_yields_List}
+use Rattle.cover.proofs.Counts.{placed}
 use Rattle.cover.proofs.in_order.Goals as goal
 
-pub loop-c-init : goal.loop-c-init
-loop-c-init c = record { units = each-none _; in_range = omega arith }
-
-pub returns-then-wide-c : goal.returns-then-wide-c
-returns-then-wide-c c =
-    sym (each-stop _ _ c.loop-c.c c.loop-c-test.true (ne_eqb _ _ (rw c.wide.ensures at c.if-wide-c.true)))
-
-pub loop-c-preserved : goal.loop-c-preserved
-loop-c-preserved c = record {
-  units = each-next _ c.loop-c.c c.loop-c.invariant.units (eq-eqb _ _ (rw c.wide.ensures at c.if-wide-c.false));
-  in_range = omega arith;
-}
+pub returns : goal.returns
+returns c =
+    let s = c.args.offsets.now in
+    let u = c.args.unit in
+    all_from_yields_List (λ (p : ℕ × ℕ). eqb p.1 (p.0 * u)) _ _ c.all.result c.all.ensures.ran
+    (YieldsList-from_enumerate (YieldsList-from_slice s (cc)) c.enumerate.ensures.count) (λ x b q k. search rules)
+    ∙ placed (λ c o. eqb o (c * u)) s

@@ -3,12 +3,12 @@ use Rattle.std.proofs.Common.{length, ◌-◌, ◌≡◌, ◌≤◌}
 use Rattle.filecheck.specs.File.{file_ahead}
 use Rattle.filecheck.proofs.rest.Given as goal
 
-abbrev pub invariant-loop-place : goal.invariant-loop-place
-invariant-loop-place l = record {
-  fewer : l.items ≤ l.place;
-  within : l.place ≤ length l.s;
-  left : file_ahead l.order l.s l.items l.place l.ended ≡ file_ahead l.order l.s 1 l.fn.from l.fn.already;
+abbrev pub invariant-loop-reach : goal.invariant-loop-reach
+invariant-loop-reach l = record {
+  fewer : l.items ≤ l.reach.place;
+  within : l.reach.place ≤ length l.s;
+  left : file_ahead l.order l.s l.items l.reach.place l.reach.ended ≡ file_ahead l.order l.s 1 l.fn.first.place l.fn.first.ended;
 }
 
-abbrev pub decreases-loop-place : goal.decreases-loop-place
-decreases-loop-place l = length l.s - l.place
+abbrev pub decreases-loop-reach : goal.decreases-loop-reach
+decreases-loop-reach l = length l.s - l.reach.place

@@ -1,5 +1,5 @@
 -- The first line, the lines of the items and the last line, each laid where the one before it ends.
-use Rattle.std.proofs.Common.{ℕ, ◌≡◌, ◌≤◌, ◌<◌, ◌∙◌, ap, arith, length, sym}
+use Rattle.std.proofs.Common.{ℕ, ◌≡◌, ◌≤◌, ◌<◌, ◌∙◌, ap, arith, length, rules, sym}
 use Rattle.reader.proofs.Rows.{items-most}
 use Rattle.listing.specs.Lines.{first_line, last_line, item_lines}
 use Rattle.listing.specs.Text.{shown, text_of}
@@ -9,24 +9,24 @@ use Rattle.lister.proofs.Laws.{text-room, text-shows, three-lay}
 use Rattle.lister.proofs.Bound.{lines-length, items-many}
 use Rattle.lister.proofs.ordered.Goals as goal
 
-pub put-at-requires : goal.put-at-requires
-put-at-requires c = (text-room _ _ c.first_line.ensures, omega arith)
+pub put-requires : goal.put-requires
+put-requires c = (text-room _ _ c.first_line.ensures, omega arith)
 
-pub lines-to-requires : goal.lines-to-requires
-lines-to-requires c =
+pub lines-requires : goal.lines-requires
+lines-requires c =
     let n = first-length c.args.order (length c.args.s.now) (omega (arith, c.requires)) in
     let e = text-shows _ (first_line c.args.order (length c.args.s.now)) c.first_line.ensures (omega arith) in
-    (c.requires, omega (arith, c.put-at.ensures.said, ap length e, n))
+    (c.requires, omega (arith, c.put.ensures.said, ap length e, n))
 
-pub put-requires : goal.put-requires
-put-requires c =
+pub put-requires-2 : goal.put-requires-2
+put-requires-2 c =
     let o = c.args.order in
     let s = c.args.s.now in
     let m : length s < 100000 = omega (arith, c.requires) in
     let n = first-length o (length s) m in
     let e = text-shows _ (first_line o (length s)) c.first_line.ensures (omega arith) in (
       text-room _ _ c.last_line.ensures,
-      omega (arith, c.lines-to.ensures.said, c.put-at.ensures.said, ap length e, n, lines-length o s m, items-most o s, c.requires),
+      omega (arith, c.lines.ensures.said, c.put.ensures.said, ap length e, n, lines-length o s m, items-most o s, c.requires),
     )
 
 pub returns : goal.returns
@@ -39,6 +39,6 @@ returns c =
     let w : length (last_line (length (items_of o s))) ≤ 96 = omega (arith, last-length (length (items_of o s)) (omega (arith, items-many o s, items-most o s, c.requires))) in
     let e : shown c.last_line.result ≡ last_line (length (items_of o s)) =
     text-shows _ _ (c.last_line.ensures ∙ ap (λ (i : ℕ). text_of (last_line i)) k) w in
-    let p = three-lay c.args.out.now _ _ _ (first_line o (length s)) (item_lines (items_of o s)) (last_line (length (items_of o s))) c.put-at.result c.lines-to.result c.put.result
-    (rw f at c.put-at.ensures.said, rw f at c.put-at.ensures.left) (c.lines-to.ensures.said, c.lines-to.ensures.left) (rw e at c.put.ensures.said, rw e at c.put.ensures.left) in
-    record { said = p.0; left = p.1 }
+    let p = three-lay c.args.out.now _ _ _ (first_line o (length s)) (item_lines (items_of o s)) (last_line (length (items_of o s))) c.put.new.self.at c.lines.new.self.at c.put-2.new.self.at
+    (rw f at c.put.ensures.said, rw f at c.put.ensures.left) (c.lines.ensures.said, c.lines.ensures.left) (rw e at c.put-2.ensures.said, rw e at c.put-2.ensures.left) in
+    record { said = p.0; left = search (rules, p.1) }

@@ -7,14 +7,14 @@ use Rattle.lister.proofs.Cases.{listed-order, listed-none}
 use Rattle.lister.proofs.Laws.{text-shows, one-lays}
 use Rattle.lister.proofs.whole.Goals as goal
 
-pub returns-in-Is : goal.returns-in-Is
-returns-in-Is c =
+pub returns-in-Ok : goal.returns-in-Ok
+returns-in-Ok c =
     let h : length c.args.s.now ≤ most = omega arith in
-    rw (listed-order c.args.s.now _ h (sym c.find_order.ensures ∙ ap order_said c.in-Is.is)) c.ordered.ensures
+    rw (listed-order c.args.s.now _ h (sym c.find_order.ensures ∙ ap order_said c.in-Ok.is)) c.ordered.ensures
 
-pub returns-in-Neither : goal.returns-in-Neither
-returns-in-Neither c =
+pub returns-in-Err : goal.returns-in-Err
+returns-in-Err c =
     let e = text-shows _ none_line c.none_line.ensures (omega arith) in
-    let p = one-lays c.args.out.now _ none_line c.put-in-Neither.result (rw e at c.put-in-Neither.ensures.said, rw e at c.put-in-Neither.ensures.left) in
+    let p = one-lays c.args.out.now _ none_line c.alone-in-Err.result (rw e at c.alone-in-Err.ensures.said, rw e at c.alone-in-Err.ensures.left) in
     let h : length c.args.s.now ≤ most = omega arith in
-    rw (listed-none c.args.s.now 1 h (sym c.find_order.ensures ∙ ap order_said c.in-Neither.is)) (record { said = p.0; left = p.1 })
+    rw (listed-none c.args.s.now 1 h (sym c.find_order.ensures ∙ ap order_said c.in-Err.is)) (record { said = p.0; left = p.1 })

@@ -28,14 +28,14 @@ pub returns-then-s-at : goal.returns-then-s-at
 unfolding layout_at
 returns-then-s-at c =
     let a = c.args in
-    ((2, rw (step-past a.order a.s.now a.cursor c.if-s-at.true), refl), tt)
+    (rw (step-past a.order a.s.now a.cursor c.if-s-at.true), tt)
 
-pub returns-then-cursor-fit : goal.returns-then-cursor-fit
+pub returns-then-cursor-is_good : goal.returns-then-cursor-is_good
 unfolding layout_at
-returns-then-cursor-fit c =
+returns-then-cursor-is_good c =
     let a = c.args in
-    let k : unfit a.cursor ≡ true = rw (← c.fit.ensures) c.if-cursor-fit.true in
-    ((3, rw (step-unfit a.order a.s.now a.cursor c.if-s-at.false k), refl), tt)
+    let k : unfit a.cursor ≡ true = rw (← c.is_good.ensures) c.if-cursor-is_good.true in
+    (rw (step-unfit a.order a.s.now a.cursor c.if-s-at.false k), tt)
 
 -- past the test of number 3, what is ahead makes the step
 ahead : (o : Order) (s : List ℕ) (c : Cursor) (ok : Bool) → ok ≡ good_held c.state.values → c.place ≤ length s → both c.in_step (not ok) ≡ false →
@@ -49,12 +49,8 @@ unfolding layout_at
 returns-then-not-cursor c =
     let a = c.args in
     let l = drop a.cursor.place a.s.now in (
-      (
-        35,
-        rw (ahead a.order a.s.now a.cursor c.fit.result c.fit.ensures c.if-s-at.false c.if-cursor-fit.false)
-            (none-searching a.float a.channel a.order l a.cursor (ahead_of a.order l) (not-true a.cursor.in_step c.if-not-cursor.true)),
-        refl,
-      ),
+      rw (ahead a.order a.s.now a.cursor c.is_good.result c.is_good.ensures c.if-s-at.false c.if-cursor-is_good.false)
+          (none-searching a.float a.channel a.order l a.cursor (ahead_of a.order l) (not-true a.cursor.in_step c.if-not-cursor.true)),
       tt,
     )
 
@@ -69,12 +65,8 @@ unfolding layout_at
 returns-in_default c =
     let a = c.args in
     let l = drop a.cursor.place a.s.now in (
-      (
-        35,
-        rw (ahead a.order a.s.now a.cursor c.fit.result c.fit.ensures c.if-s-at.false c.if-cursor-fit.false, ← c.ahead_of.ensures)
-            (none-ahead a.float a.channel a.order l a.cursor c.ahead_of.result (no-chunk c.ahead_of.result c.in_default.not-Chunk)),
-        refl,
-      ),
+      rw (ahead a.order a.s.now a.cursor c.is_good.result c.is_good.ensures c.if-s-at.false c.if-cursor-is_good.false, ← c.ahead_of.ensures)
+          (none-ahead a.float a.channel a.order l a.cursor c.ahead_of.result (no-chunk c.ahead_of.result c.in_default.not-Chunk)),
       tt,
     )
 
@@ -100,35 +92,31 @@ plan_in-requires c =
     let a = c.args in
     let n = c.in-Chunk in
     let f = fits a.order a.s.now a.cursor n.code n.size n.ensures in
-    let q = asked a.order (drop a.cursor.place a.s.now) n.code n.size a.cursor.state c.kind_of-kind.result c.in-Ready.d c.kind_of-kind.ensures c.in-Ready.ensures in
-    (has-time a.order a.s.now a.cursor.place n.code n.size a.cursor.state f c.in-Ready.d q, omega (arith, f))
+    let q = asked a.order (drop a.cursor.place a.s.now) n.code n.size a.cursor.state c.kind_of-kind.result c.in-Some.d c.kind_of-kind.ensures c.in-Some.ensures in
+    (has-time a.order a.s.now a.cursor.place n.code n.size a.cursor.state f c.in-Some.d q, omega (arith, f))
 
-pub returns-in-Ready : goal.returns-in-Ready
+pub returns-in-Some : goal.returns-in-Some
 unfolding layout_at
-returns-in-Ready c =
+returns-in-Some c =
     let a = c.args in
     let n = c.in-Chunk in
-    let d = c.in-Ready.d in
-    let q = asked a.order (drop a.cursor.place a.s.now) n.code n.size a.cursor.state c.kind_of-kind.result d c.kind_of-kind.ensures c.in-Ready.ensures in
+    let d = c.in-Some.d in
+    let q = asked a.order (drop a.cursor.place a.s.now) n.code n.size a.cursor.state c.kind_of-kind.result d c.kind_of-kind.ensures c.in-Some.ensures in
     let place = a.cursor.place in
-    let e = step a.order a.s.now a.cursor c.fit.result c.fit.ensures c.if-s-at.false c.if-cursor-fit.false c.if-not-cursor.false n.code n.size n.ensures in
+    let e = step a.order a.s.now a.cursor c.is_good.result c.is_good.ensures c.if-s-at.false c.if-cursor-is_good.false c.if-not-cursor.false n.code n.size n.ensures in
     plan-tells a.order a.s.now place n.code n.size a.cursor.state (fits a.order a.s.now a.cursor n.code n.size n.ensures) d q a.float a.channel c.plan_in.result
     (layout_at a.float a.order a.s.now a.cursor a.channel) (samples_at a.order a.s.now a.cursor)
     (rw c.kind_of-kind.ensures at c.plan_in.ensures)
     (rw e (given-lies a.order n.code (take n.size (drop 12 (drop place a.s.now))) a.cursor.state a.float a.channel d q))
     (rw e)
 
-pub returns-in-NotReady : goal.returns-in-NotReady
+pub returns-in-None : goal.returns-in-None
 unfolding layout_at
-returns-in-NotReady c =
+returns-in-None c =
     let a = c.args in
     let n = c.in-Chunk in
     let t = effect_in a.order (drop a.cursor.place a.s.now) n.code n.size a.cursor.state in (
-      (
-        35,
-        rw (step a.order a.s.now a.cursor c.fit.result c.fit.ensures c.if-s-at.false c.if-cursor-fit.false c.if-not-cursor.false n.code n.size n.ensures)
-            (sym (none-lies a.float a.channel t.shown t.says n.code (rw c.kind_of-kind.ensures at c.in-NotReady.ensures))),
-        refl,
-      ),
+      rw (step a.order a.s.now a.cursor c.is_good.result c.is_good.ensures c.if-s-at.false c.if-cursor-is_good.false c.if-not-cursor.false n.code n.size n.ensures)
+          (sym (none-lies a.float a.channel t.shown t.says n.code (rw c.kind_of-kind.ensures at c.in-None.ensures))),
       tt,
     )

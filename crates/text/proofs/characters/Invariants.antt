@@ -1,10 +1,10 @@
--- What is ahead of `at` is UTF-8 where what is ahead of i is: each turn passes over a character, and where none stands neither is.
-use Rattle.std.proofs.Common.{◌≡◌, ◌-◌, ◌≤◌, length, drop}
-use Rattle.text.specs.Utf8.{is_utf8}
+-- What was passed are whole characters.
+use Rattle.std.proofs.Common.{◌-◌}
+use Rattle.text.specs.Utf8.{Leads}
 use Rattle.text.proofs.characters.Given as goal
 
 abbrev pub invariant-loop-at : goal.invariant-loop-at
-invariant-loop-at l = record { within : l.at ≤ length l.s; same : is_utf8 (drop l.i l.s) ≡ is_utf8 (drop l.at l.s) }
+invariant-loop-at l = Leads l.s l.at
 
 abbrev pub decreases-loop-at : goal.decreases-loop-at
 decreases-loop-at l = l.end - l.at

@@ -1,11 +1,12 @@
--- Eight plain bytes are passed over.
-use Rattle.std.proofs.Common.{refl, ◌∙◌, arith}
-use Rattle.text.proofs.Laws.{plain-run}
+-- Eight plain bytes more are passed over.
+use Rattle.std.proofs.Common.{refl}
+use Rattle.text.proofs.Laws.{plain-none, plain-on, plain-front}
 use Rattle.text.proofs.eights.Goals as goal
 
-pub loop-at-preserved : goal.loop-at-preserved
-loop-at-preserved c = record {
-  from = omega arith;
-  within = omega arith;
-  same = c.loop-at.invariant.same ∙ plain-run c.args.s.now c.loop-at.at 8 (omega arith) (c.if-not-plain.ensures refl);
-}
+pub loop-group-init : goal.loop-group-init
+loop-group-init c = plain-none _
+
+pub loop-group-preserved : goal.loop-group-preserved
+loop-group-preserved c =
+    let h = c.in-Some.ensures.cases in
+    plain-on c.args.s.now c.loop-group.n 8 c.loop-group.invariant (plain-front _ _ 8 h.enough h.same (c.if-not-plain.ensures refl))

@@ -1,10 +1,10 @@
--- What is ahead of `at` is UTF-8 where what is ahead of i is: each turn passes over eight plain bytes.
-use Rattle.std.proofs.Common.{◌≡◌, ◌-◌, ◌≤◌, drop}
-use Rattle.text.specs.Utf8.{is_utf8}
+-- The groups passed are plain.
+use Rattle.std.proofs.Common.{◌-◌, length}
+use Rattle.text.specs.Utf8.{PlainFront}
 use Rattle.text.proofs.eights.Given as goal
 
-abbrev pub invariant-loop-at : goal.invariant-loop-at
-invariant-loop-at l = record { from : l.i ≤ l.at; within : l.at ≤ l.end; same : is_utf8 (drop l.i l.s) ≡ is_utf8 (drop l.at l.s) }
+abbrev pub invariant-loop-group : goal.invariant-loop-group
+invariant-loop-group l = PlainFront l.s l.n
 
-abbrev pub decreases-loop-at : goal.decreases-loop-at
-decreases-loop-at l = l.end - l.at
+abbrev pub decreases-loop-group : goal.decreases-loop-group
+decreases-loop-group l = length l.s - l.n

@@ -1,15 +1,12 @@
--- A block of plain bytes is passed over; at the end the bytes are UTF-8 where all of them have been passed.
+-- A block of plain bytes is passed over; at the end the bytes are UTF-8 where characters lead to the end.
 use Rattle.std.proofs.Common.{refl, sym, ◌∙◌, arith}
-use Rattle.text.proofs.Laws.{plain-run, end-told}
+use Rattle.text.proofs.Laws.{told-end, plain-leads, plain-front}
 use Rattle.text.proofs.utf8.Goals as goal
 
-pub loop-i-preserved-then-plain : goal.loop-i-preserved-then-plain
-loop-i-preserved-then-plain c = record {
-  within = omega arith;
-  same = c.loop-i.invariant.same ∙ plain-run c.args.bytes.now c.loop-i.i 32 (omega arith) (c.if-plain.ensures refl);
-}
+pub loop-block-preserved-then-plain : goal.loop-block-preserved-then-plain
+loop-block-preserved-then-plain c =
+    let h = c.in-Some.ensures.cases in
+    c.loop-block.invariant ∙ rw h.1 (plain-leads 32 _ (plain-front c.loop-block.rest.now c.in-Some.block.now 32 (omega arith) h.0 (c.if-plain.ensures refl))).same
 
 pub returns : goal.returns
-returns c =
-    let r = c.characters in
-    end-told c.args.bytes.now r.result _ refl r.ensures.0 r.ensures.2 ∙ sym (c.loop-i.invariant.same ∙ r.ensures.1)
+returns c = c.is_some.ensures ∙ told-end c.loop-block.rest.now c.characters-2.result c.characters-2.ensures ∙ sym c.loop-block.invariant

@@ -1,19 +1,12 @@
--- A byte that is not 0 decides; one that is 0 leaves what is ahead; past the end nothing is ahead.
-use Rattle.std.proofs.Common.{sym, ◌∙◌, arith}
-use Rattle.std.proofs.Math.ListN.{drop_of_length-le}
-use borrow.Author.Tests.{eq-eqb, ne_eqb}
-use Rattle.body.specs.Plain.{zeros}
-use Rattle.body.proofs.Texts.{zeros-step}
+-- `all` asks each byte.
+use Rattle.std.proofs.Common.{ℕ, rules, ◌∙◌}
+use Rattle.std.specs.Prelude.{eqb}
+use Rattle.std.proofs.lemmas.Iterator.{YieldsList-from_slice}
+use Rattle.std.proofs.lemmas.Iterator.Search.{all_from_yields_List}
+use Rattle.body.proofs.Texts.{zeros-all}
 use Rattle.body.proofs.plain.zeros.Goals as goal
 
-pub returns-then-s-i-ne0 : goal.returns-then-s-i-ne0
-returns-then-s-i-ne0 c =
-    sym (sym c.loop-i.invariant ∙ zeros-step c.args.s.now c.loop-i.i (omega arith) ∙ rw (ne_eqb _ _ c.if-s-i-ne0.true))
-
-pub loop-i-preserved : goal.loop-i-preserved
-loop-i-preserved c =
-    sym (zeros-step c.args.s.now c.loop-i.i (omega arith) ∙ rw (eq-eqb _ _ c.if-s-i-ne0.false)) ∙ c.loop-i.invariant
-
 pub returns : goal.returns
-unfolding zeros
-returns c = rw (← c.loop-i.invariant, drop_of_length-le c.args.s.now {i = c.loop-i.i} c.loop-i-test.false)
+returns c =
+    all_from_yields_List (λ (b : ℕ). eqb b 0) _ _ c.all.result c.all.ensures.ran (YieldsList-from_slice c.args.s.now (cc)) (λ x b q k. search rules)
+    ∙ zeros-all c.args.s.now

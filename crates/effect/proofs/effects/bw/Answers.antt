@@ -8,4 +8,4 @@ pub returns : goal.returns
 unfolding effect
 returns c =
     let e = c.bw-read.ensures in
-    read-is-effect e c.set.ensures c.of_number.ensures (rw (read-centred e c.held-bandwidth.ensures) (search rules))
+    read-is-effect e c.set.ensures c.judged.ensures (rw (read-centred e c.held-bandwidth.ensures) (search rules))

@@ -15,5 +15,5 @@ returns c =
     let a = c.args in
     let e = c.bwof-read.ensures in
     set-is-effect band banded (bwof a.order a.body.now) a.was c.set.ensures
-    (c.of_band.ensures ∙ ap judged e)
+    (c.judged.ensures ∙ ap judged e)
     (c.banded-value.ensures ∙ ap (or_else no_band banded) e)

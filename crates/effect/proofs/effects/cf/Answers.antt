@@ -15,5 +15,5 @@ returns c =
     let a = c.args in
     let e = c.cf-read.ensures in
     set-is-effect centre number (cf a.order a.body.now) a.was c.set.ensures
-    (c.of_number.ensures ∙ ap judged e)
+    (c.judged.ensures ∙ ap judged e)
     (c.held-frequency.ensures ∙ ap (or_else no_number number) e)

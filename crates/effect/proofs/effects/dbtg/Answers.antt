@@ -16,5 +16,5 @@ returns c =
     let a = c.args in
     let e = c.dbtg-read.ensures in
     set-is-effect total_gain levelled (dbtg a.order a.body.now) a.was (c.set.ensures.0, c.set.ensures.1, c.set.ensures.2 ∙ ap (with_values a.was) c.with_total_gain.ensures)
-    (c.of_level.ensures ∙ ap judged e)
+    (c.judged.ensures ∙ ap judged e)
     (c.levelled-value.ensures ∙ ap (or_else no_level levelled) e)

@@ -15,5 +15,5 @@ returns c =
     let a = c.args in
     let e = c.ffs-read.ensures in
     set-is-effect float_scale levelled (ffs a.order a.body.now) a.was c.set.ensures
-    (c.of_level.ensures ∙ ap judged e)
+    (c.judged.ensures ∙ ap judged e)
     (c.levelled-value.ensures ∙ ap (or_else no_level levelled) e)

@@ -15,5 +15,5 @@ returns c =
     let a = c.args in
     let e = c.sr-read.ensures in
     set-is-effect rate number (sr a.order a.body.now) a.was c.set.ensures
-    (c.of_number.ensures ∙ ap judged e)
+    (c.judged.ensures ∙ ap judged e)
     (c.held-value.ensures ∙ ap (or_else no_number number) e)

@@ -13,21 +13,21 @@ unfolding effect
 returns-in-SOFH c =
     let a = c.args in
     rw c.in-SOFH.is
-    (met-is-effect (sofh a.order a.body.now) a.was c.met.ensures (c.of_number.ensures ∙ ap judged c.sofh.ensures) refl)
+    (met-is-effect (sofh a.order a.body.now) a.was c.met.ensures (c.judged.ensures ∙ ap judged c.sofh.ensures) refl)
 
 pub returns-in-EOFH : goal.returns-in-EOFH
 unfolding effect
 returns-in-EOFH c =
     let a = c.args in
     rw c.in-EOFH.is
-    (met-is-effect (empty a.body.now) a.was c.met-in-EOFH.ensures (c.of_checked.ensures ∙ ap judged c.empty.ensures) refl)
+    (met-is-effect (empty a.body.now) a.was c.met-in-EOFH.ensures (c.judged-in-EOFH.ensures ∙ ap judged c.empty.ensures) refl)
 
 pub returns-in-TEXT : goal.returns-in-TEXT
 unfolding effect
 returns-in-TEXT c =
     let a = c.args in
     rw c.in-TEXT.is
-    (met-is-effect (text a.order a.body.now) a.was c.met-in-TEXT.ensures (c.of_text.ensures ∙ ap judged c.text.ensures) refl)
+    (met-is-effect (text a.order a.body.now) a.was c.met-in-TEXT.ensures (c.judged-in-TEXT.ensures ∙ ap judged c.text.ensures) refl)
 
 pub returns-in-Unknown : goal.returns-in-Unknown
 unfolding effect

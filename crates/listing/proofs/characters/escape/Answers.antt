@@ -1,7 +1,7 @@
--- The two digits are those of the definition, the higher first.
-use Rattle.listing.specs.Digits.{hex_digits}
+-- Two digits stand after a backslash and an x.
+use Rattle.std.proofs.Common.{◌∙◌, ap}
+use Rattle.listing.specs.Text.{text_of}
 use Rattle.listing.proofs.characters.escape.Goals as goal
 
 pub returns : goal.returns
-unfolding hex_digits
-returns c = rw (← c.hex_digit-high.ensures, ← c.hex_digit-low.ensures) c.word.ensures
+returns c = c.joined.ensures _ _ c.word.ensures (c.word-2.ensures ∙ ap text_of (rw c.from.ensures at c.hex.ensures))

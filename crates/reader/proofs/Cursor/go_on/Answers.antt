@@ -16,11 +16,11 @@ returns-then-s-at c =
     let a = c.args in
     rw (step-past a.order a.s.now a.self c.if-s-at.true) (still-is-step c.still.ensures)
 
-pub returns-then-self-fit : goal.returns-then-self-fit
-returns-then-self-fit c =
+pub returns-then-self-is_good : goal.returns-then-self-is_good
+returns-then-self-is_good c =
     let a = c.args in
-    let k : unfit a.self ≡ true = rw (← c.fit.ensures) c.if-self-fit.true in
-    rw (step-unfit a.order a.s.now a.self c.if-s-at.false k) (still-is-step c.still-then-self-fit.ensures)
+    let k : unfit a.self ≡ true = rw (← c.is_good.ensures) c.if-self-is_good.true in
+    rw (step-unfit a.order a.s.now a.self c.if-s-at.false k) (still-is-step c.still-then-self-is_good.ensures)
 
 -- what is ahead, and the step that it makes
 ahead : (o : Order) (s : List ℕ) (c : Cursor) (ok : Bool) (a : Ahead) → ok ≡ good_held c.state.values → c.place ≤ length s → both c.in_step (not ok) ≡ false →
@@ -46,7 +46,7 @@ slice_bounds-chunk-end c =
 pub returns-in-End : goal.returns-in-End
 returns-in-End c =
     let a = c.args in
-    rw (ahead a.order a.s.now a.self c.fit.result _ c.fit.ensures c.if-s-at.false c.if-self-fit.false c.in-End.ensures)
+    rw (ahead a.order a.s.now a.self c.is_good.result _ c.is_good.ensures c.if-s-at.false c.if-self-is_good.false c.in-End.ensures)
     (still-is-step c.still-in-End.ensures)
 
 pub returns-in-Chunk : goal.returns-in-Chunk
@@ -55,17 +55,17 @@ returns-in-Chunk c =
     let n = c.in-Chunk in
     let at = a.self.place in
     let e = is-chunk a.order (drop at a.s.now) n.code n.size (sym n.ensures) in
-    rw (ahead a.order a.s.now a.self c.fit.result _ c.fit.ensures c.if-s-at.false c.if-self-fit.false c.in-Chunk.ensures)
+    rw (ahead a.order a.s.now a.self c.is_good.result _ c.is_good.ensures c.if-s-at.false c.if-self-is_good.false c.in-Chunk.ensures)
     (rw (chunk-body a.order a.s.now at n.code n.size e, chunk-size a.order a.s.now at n.code n.size e) at c.chunk.ensures)
 
 pub returns-in-Cut : goal.returns-in-Cut
 returns-in-Cut c =
     let a = c.args in
-    rw (ahead a.order a.s.now a.self c.fit.result _ c.fit.ensures c.if-s-at.false c.if-self-fit.false c.in-Cut.ensures, length-drop a.self.place a.s.now)
+    rw (ahead a.order a.s.now a.self c.is_good.result _ c.is_good.ensures c.if-s-at.false c.if-self-is_good.false c.in-Cut.ensures, length-drop a.self.place a.s.now)
     c.cut.ensures
 
 pub returns-in-Stretch : goal.returns-in-Stretch
 returns-in-Stretch c =
     let a = c.args in
-    rw (ahead a.order a.s.now a.self c.fit.result _ c.fit.ensures c.if-s-at.false c.if-self-fit.false c.in-Stretch.ensures)
+    rw (ahead a.order a.s.now a.self c.is_good.result _ c.is_good.ensures c.if-s-at.false c.if-self-is_good.false c.in-Stretch.ensures)
     c.skip.ensures

@@ -1,5 +1,6 @@
 -- Each test that fails leaves nothing ready; past them all the chunk in the stream is the one that was given.
-use Rattle.std.proofs.Common.{◌≡◌, ℕ, ◌+◌, ◌≤◌, Bool, true, false, List, refl, sym, ap, ◌∙◌, arith, length, take, drop}
+use Rattle.std.proofs.Common.{◌≡◌, ℕ, ◌+◌, ◌≤◌, Bool, true, false, List, sym, ap, ◌∙◌, arith, length, take, drop, not, ◌&&◌, int_eq, eqb}
+use borrow.Author.Tests.{not-true, not-false}
 use Rattle.num.specs.Answer.{gives}
 use Rattle.num.specs.declared.Order.{Order}
 use Rattle.frame.specs.Ahead.{ahead_of}
@@ -20,21 +21,21 @@ use Rattle.state.specs.declared.State.{State}
 use Rattle.samples.specs.Given.{same_data, is_that, layout_given, samples_given}
 use Rattle.samples.proofs.AtCursor.{effect_in}
 use Rattle.samples.proofs.Plans.{has-time, plan-tells}
-use Rattle.samples.proofs.There.{same-data, own-data, is-that, no-chunk, not-ready}
+use Rattle.samples.proofs.There.{same-data, same-derived, own-data, is-that, no-chunk, not-ready}
 use Rattle.samples.proofs.given.plan_of.Goals as goal
 
 pub returns-in_default : goal.returns-in_default
 unfolding layout_given
 returns-in_default c =
     let a = c.args in
-    ((35, no-chunk a.float a.order a.s.now a.channel a.stepped.shown a.stepped.item c.in_default.not-Chunk, refl), tt)
+    (no-chunk a.float a.order a.s.now a.channel a.stepped.shown a.stepped.item c.in_default.not-Chunk, tt)
 
 pub returns-in_default-verdict : goal.returns-in_default-verdict
 unfolding layout_given
 returns-in_default-verdict c =
     let a = c.args in
     let i = c.in-Chunk in
-    ((35, rw i.is (not-ready a.float a.order a.s.now a.channel a.stepped.shown i.place i.code i.size i.verdict c.in_default-verdict.not-Ready), refl), tt)
+    (rw i.is (not-ready a.float a.order a.s.now a.channel a.stepped.shown i.place i.code i.size i.verdict c.in_default-verdict.not-Ready), tt)
 
 -- a chunk that is said to be ready was given
 said : {i : Item} (place code size : ℕ) {v : Verdict} (d : Data) → i ≡ Chunk place code size v → v ≡ Ready d → item_said i ≡ gives (chunk place code size (ready d))
@@ -44,7 +45,7 @@ pub returns-then-not-stands : goal.returns-then-not-stands
 unfolding layout_given
 returns-then-not-stands c =
     let i = c.in-Chunk in
-    ((35, rw (said i.place i.code i.size c.in-Ready.d i.is c.in-Ready.is, ← c.stands.ensures, c.if-not-stands.true), refl), tt)
+    (rw (said i.place i.code i.size c.in-Ready.d i.is c.in-Ready.is, ← c.stands.ensures, c.if-not-stands.true), tt)
 
 -- the body of the chunk that the stream has is whole
 fits : (o : Order) (s : List ℕ) (place code size : ℕ) (b : Bool) → b ≡ is_that code size (ahead_of o (drop place s)) → b ≡ true → place + 12 + size ≤ length s
@@ -62,28 +63,29 @@ unfolding layout_given
 returns-in_default-data_at c =
     let i = c.in-Chunk in
     let q = rw c.kind_of-kind.ensures at c.in_default-data_at.ensures in
-    ((35, rw (said i.place i.code i.size c.in-Ready.d i.is c.in-Ready.is, ← c.stands.ensures, c.if-not-stands.false, ← q), refl), tt)
+    (rw (said i.place i.code i.size c.in-Ready.d i.is c.in-Ready.is, ← c.stands.ensures, c.if-not-stands.false, ← q), tt)
 
 -- the data that was asked for
 asked : (o : Order) (l : List ℕ) (code size : ℕ) (state : State) (k : Kind) (d : Data) → k ≡ kind_of code → gives d ≡ ready_data (effect o k (take size (drop 12 l)) state).says →
     gives d ≡ ready_data (effect_in o l code size state).says
 asked o l code size state k d e h = rw e at h
 
-pub returns-then-not-same_data : goal.returns-then-not-same_data
+pub returns-then-ne : goal.returns-then-ne
 unfolding layout_given
-returns-then-not-same_data c =
+returns-then-ne c =
     let a = c.args in
     let i = c.in-Chunk in
-    let found = c.in-Ready-data_at.found in
-    let q = asked a.order (drop i.place a.s.now) i.code i.size a.stepped.shown c.kind_of-kind.result found c.kind_of-kind.ensures c.in-Ready-data_at.ensures in
-    let other : same_data found c.in-Ready.d ≡ false = sym c.same_data.ensures ∙ c.if-not-same_data.true in
-    ((35, rw (said i.place i.code i.size c.in-Ready.d i.is c.in-Ready.is, ← c.stands.ensures, c.if-not-stands.false, ← q, other), refl), tt)
+    let found = c.in-Some.found in
+    let q = asked a.order (drop i.place a.s.now) i.code i.size a.stepped.shown c.kind_of-kind.result found c.kind_of-kind.ensures c.in-Some.ensures in
+    let other : same_data found c.in-Ready.d ≡ false = sym (same-derived found c.in-Ready.d) ∙ not-true _ (sym c.ne.ensures ∙ c.if-ne.true) in
+    (rw (said i.place i.code i.size c.in-Ready.d i.is c.in-Ready.is, ← c.stands.ensures, c.if-not-stands.false, ← q, other), tt)
 
 -- it is the data that was given
 again : (o : Order) (l : List ℕ) (code size : ℕ) (state : State) (k : Kind) (found d : Data) (b : Bool) → k ≡ kind_of code →
-    gives found ≡ ready_data (effect o k (take size (drop 12 l)) state).says → b ≡ same_data found d → b ≡ true →
+    gives found ≡ ready_data (effect o k (take size (drop 12 l)) state).says → b ≡ not (int_eq found.time d.time && eqb found.samples d.samples) → b ≡ false →
     gives d ≡ ready_data (effect_in o l code size state).says
-again o l code size state k found d b e h t u = ap gives (sym (same-data found d (sym t ∙ u))) ∙ asked o l code size state k found e h
+again o l code size state k found d b e h t u =
+    ap gives (sym (same-data found d (sym (same-derived found d) ∙ not-false _ (sym t ∙ u)))) ∙ asked o l code size state k found e h
 
 pub plan_in-requires : goal.plan_in-requires
 plan_in-requires c =
@@ -91,7 +93,7 @@ plan_in-requires c =
     let i = c.in-Chunk in
     let d = c.in-Ready.d in
     let f = fits a.order a.s.now i.place i.code i.size c.stands.result c.stands.ensures c.if-not-stands.false in
-    let q = again a.order (drop i.place a.s.now) i.code i.size a.stepped.shown c.kind_of-kind.result c.in-Ready-data_at.found d c.same_data.result c.kind_of-kind.ensures c.in-Ready-data_at.ensures c.same_data.ensures c.if-not-same_data.false in
+    let q = again a.order (drop i.place a.s.now) i.code i.size a.stepped.shown c.kind_of-kind.result c.in-Some.found d c.ne.result c.kind_of-kind.ensures c.in-Some.ensures c.ne.ensures c.if-ne.false in
     (has-time a.order a.s.now i.place i.code i.size a.stepped.shown f d q, omega (arith, f))
 
 pub returns : goal.returns
@@ -101,7 +103,7 @@ returns c =
     let i = c.in-Chunk in
     let d = c.in-Ready.d in
     let f = fits a.order a.s.now i.place i.code i.size c.stands.result c.stands.ensures c.if-not-stands.false in
-    let q = again a.order (drop i.place a.s.now) i.code i.size a.stepped.shown c.kind_of-kind.result c.in-Ready-data_at.found d c.same_data.result c.kind_of-kind.ensures c.in-Ready-data_at.ensures c.same_data.ensures c.if-not-same_data.false in
+    let q = again a.order (drop i.place a.s.now) i.code i.size a.stepped.shown c.kind_of-kind.result c.in-Some.found d c.ne.result c.kind_of-kind.ensures c.in-Some.ensures c.ne.ensures c.if-ne.false in
     let e = said i.place i.code i.size d i.is c.in-Ready.is in
     plan-tells a.order a.s.now i.place i.code i.size a.stepped.shown f d q a.float a.channel c.plan_in.result
     (layout_given a.float a.order a.s.now a.stepped a.channel) (samples_given a.s.now a.stepped)

@@ -16,6 +16,6 @@ returns c =
     let a = c.args in
     let body = int64 a.order a.bandwidth ++ int64 a.order a.offset in
     let n : length body ≡ 16 = simp (length-append, bytes-length) in
-    let laid = rw (to_z-of_z w64 a.bandwidth c.ranges.bandwidth, to_z-of_z w64 a.offset c.ranges.offset, run-two (int64 a.order) a.bandwidth a.offset) at c.longs.ensures.left in
+    let laid = rw (to_z-of_z w64 a.bandwidth c.ranges.bandwidth, to_z-of_z w64 a.offset c.ranges.offset, run-two (int64 a.order) a.bandwidth a.offset) at c.run.ensures.left in
     let w = same-body a.order (code_of BWOF) _ body a.out.now a.place _ _ (laid-whole (replicate 16 0) _ body n laid) (c.write.ensures.said, c.write.ensures.left) in
     record { said = w.0; left = w.1 }

@@ -1,29 +1,23 @@
--- The count is laid first, and the values where it ends.
-use Rattle.std.proofs.Common.{◌≡◌, length, replicate, rules, arith}
-use Rattle.std.specs.Prelude.{Float}
+-- The count stands before the patterns of the gains, of which there are no more than sixteen.
+use Rattle.std.proofs.Common.{◌≡◌, ◌∙◌, sym, ℕ, ◌<◌, get_or, length, map, rules}
+use Rattle.std.proofs.lemmas.List.{ext_get_or, get_or-map, length-map}
 use Rattle.std.specs.Float.{binary32}
-use Rattle.std.specs.Float.Ieee.{to_bits}
-use Rattle.num.specs.Number.{bytes_of}
-use Rattle.num.proofs.Laws.{bytes-length}
-use Rattle.lay.proofs.Values.{run-one}
+use Rattle.std.specs.Float.Ieee.{nan, to_bits}
 use Rattle.body.specs.Kind.{code_of}
 use Rattle.body.specs.declared.kinds.Kind.TheVariants.{GRG}
-use Rattle.typed.specs.Bodies.{float32}
-use Rattle.typed.specs.Groups.{at_most, gains_body}
-use Rattle.typed.proofs.Laid.{group-laid}
+use Rattle.typed.specs.Groups.{gains_body}
+use Rattle.typed.proofs.Laid.{gains-is-body}
 use Rattle.typed.proofs.Writes.{same-body}
 use Rattle.typed.proofs.group.grg.Goals as goal
 
 pub returns : goal.returns
-unfolding gains_body
 returns c =
     let a = c.args in
-    let o = a.order in
-    let n = a.gains.n in
-    let u = c.at_most-used in
-    let head = bytes_of o 4 (at_most 17 n) in
     let sixteen : length a.gains.values ≡ 16 = search rules in
-    let h = rw (c.at_most.ensures.0, run-one (bytes_of o 4) (at_most 17 n)) at c.words.ensures.left in
-    let e = group-laid (float32 o) 4 (λ (x : Float). bytes-length o 4 (to_bits binary32 x)) a.gains.values (replicate 68 0) _ _ head u.result n 4 sixteen u.ensures.0 u.ensures.1 (bytes-length o 4 (at_most 17 n)) (omega arith) h c.floats.ensures in
-    let w = same-body o (code_of GRG) _ (gains_body o a.gains) a.out.now a.place _ _ e (c.write.ensures.said, c.write.ensures.left) in
+    let each : (i : ℕ) → i < 16 → get_or c.map-patterns.result i 0 ≡ to_bits binary32 (get_or a.gains.values i nan) = λ i h. let k = c.map-patterns.ensures.items.at i nan 0 h in let m = k.2.met in search rules in
+    let long : length c.map-patterns.result ≡ length (map (to_bits binary32) a.gains.values) = c.map-patterns.ensures.items.long ∙ sym (length-map a.gains.values (to_bits binary32) ∙ sixteen) in
+    let patterns : c.map-patterns.result ≡ map (to_bits binary32) a.gains.values =
+    ext_get_or 0 _ _ long (λ i h. each i (rw c.map-patterns.ensures.items.long at h) ∙ sym (get_or-map (to_bits binary32) a.gains.values i nan 0 (rw (c.map-patterns.ensures.items.long ∙ sym sixteen) at h))) in
+    let e = gains-is-body a.order a.gains sixteen _ patterns _ _ c.min.ensures c.min-2.ensures in
+    let w = same-body a.order (code_of GRG) _ (gains_body a.order a.gains) a.out.now a.place _ _ e (c.group.ensures.said, c.group.ensures.left) in
     record { said = w.0; left = w.1 }

@@ -18,7 +18,7 @@ returns-then-n-gt-LONGEST c =
 pub returns : goal.returns
 returns c =
     let a = c.args in
-    let h = rw (run-one (bytes_of a.order 4) (length a.bytes.now)) at c.words.ensures.left in
+    let h = rw (run-one (bytes_of a.order 4) (length a.bytes.now)) at c.run.ensures.left in
     let e = text-laid a.order a.bytes.now 69632 _ _ _ c.room-body.ensures (omega arith) h c.bytes.ensures.left in
     let w = same-body a.order (code_of TEXT) _ (text_body a.order a.bytes.now) a.out.now a.place _ _ e (c.write.ensures.said, c.write.ensures.left) in
     record { said = w.0; left = w.1 }

@@ -1,2 +1,0 @@
--- What only the promises of private functions use.
-pub mod Answers

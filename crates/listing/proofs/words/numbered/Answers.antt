@@ -1,7 +1,0 @@
--- The text of the head and then that of the number are the text of both.
-use Rattle.std.proofs.Common.{◌∙◌}
-use Rattle.listing.proofs.Texts.{join-texts}
-use Rattle.listing.proofs.words.numbered.Goals as goal
-
-pub returns : goal.returns
-returns c = c.joined.ensures ∙ join-texts _ _ _ _ c.word.ensures c.number.ensures

@@ -1,9 +1,0 @@
--- The type is the kind's, whose samples have 4 bytes each.
-use Rattle.body.specs.Kind.{kind_of, kind_in, known}
-use Rattle.body.specs.Verdict.{verdict}
-use Rattle.writer.proofs.Bodies.{timed-sized}
-use Rattle.writer.proofs.patterns.sfnr.Goals as goal
-
-pub write-requires-clause-sized : goal.write-requires-clause-sized
-unfolding verdict kind_of kind_in known
-write-requires-clause-sized c = timed-sized 4 c.args.order
