@@ -1,9 +1,8 @@
 -- Each number, each list of bytes and each number of a refusal is the one that a definition gives.
-use mathlib.Core.Path.{◌≡◌, sym, ◌∙◌}
+use mathlib.Core.Path.{sym, ◌∙◌}
 use denote.Param.Laws.{Laws, IsCopy}
 use denote.RattleType.{RattleType}
-use mir.Syntax.{Dict, w16, w32, w64}
-use mir.Val.{to_z, of_z}
+use mir.Syntax.{Dict}
 use Rattle.std.proofs.result.Result.unwrap_or.Reads as unwrap_or
 use Rattle.std.specs.declared.clone.Clone.{Ghosts as CloneGhosts}
 use Rattle.num.specs.declared.numbered.Numbered.{Ghosts}
@@ -21,6 +20,12 @@ use Rattle.num.proofs.number.U32Number4.of.Reads as u32_of
 use Rattle.num.proofs.number.U64Number8.bytes.Reads as u64_bytes
 use Rattle.num.proofs.number.U64Number8.of.Reads as u64_of
 use Rattle.num.proofs.numbered.ResultNumbered.number.Reads as number
+use Rattle.num.proofs.pattern16.Reads as pattern16
+use Rattle.num.proofs.pattern32.Reads as pattern32
+use Rattle.num.proofs.pattern64.Reads as pattern64
+use Rattle.num.proofs.signed16.Reads as signed16
+use Rattle.num.proofs.signed32.Reads as signed32
+use Rattle.num.proofs.signed64.Reads as signed64
 use Rattle.claims.proofs.Numbers.{i32_type, i64_type, u32_type, u64_type}
 use Rattle.claims.proofs.Promise.{OneAnswer, NumberType}
 
@@ -88,25 +93,20 @@ result-number-one-answer T E l m c k d g e κs a r r' s s' p q = p ∙ sym q
 pub unwrap-or-one-answer : (T E : RattleType) (l : Laws T) (m : Laws E) (d e : Dict) → OneAnswer (unwrap_or.Post T E l m d e)
 unwrap-or-one-answer T E l m d e κs a r r' s s' p q = p ∙ sym q
 
--- The numbers of a pattern, and the patterns of a number, are the casts of the kit's library, whose promise is an equation
--- with `to_z` or `of_z`: two answers that meet it are equal.
-abbrev CastOneAnswer : {A B : Type 0} → (A → B) → Type 0
-CastOneAnswer {A} {B} cast = (x : A) (r s : B) → r ≡ cast x → s ≡ cast x → r ≡ s
+pub signed16-one-answer : OneAnswer signed16.Post
+signed16-one-answer κs a r r' s s' p q = p ∙ sym q
 
-pub signed16-one-answer : CastOneAnswer (to_z w16)
-signed16-one-answer x r s p q = p ∙ sym q
+pub signed32-one-answer : OneAnswer signed32.Post
+signed32-one-answer κs a r r' s s' p q = p ∙ sym q
 
-pub signed32-one-answer : CastOneAnswer (to_z w32)
-signed32-one-answer x r s p q = p ∙ sym q
+pub signed64-one-answer : OneAnswer signed64.Post
+signed64-one-answer κs a r r' s s' p q = p ∙ sym q
 
-pub signed64-one-answer : CastOneAnswer (to_z w64)
-signed64-one-answer x r s p q = p ∙ sym q
+pub pattern16-one-answer : OneAnswer pattern16.Post
+pattern16-one-answer κs a r r' s s' p q = p ∙ sym q
 
-pub pattern16-one-answer : CastOneAnswer (of_z w16)
-pattern16-one-answer x r s p q = p ∙ sym q
+pub pattern32-one-answer : OneAnswer pattern32.Post
+pattern32-one-answer κs a r r' s s' p q = p ∙ sym q
 
-pub pattern32-one-answer : CastOneAnswer (of_z w32)
-pattern32-one-answer x r s p q = p ∙ sym q
-
-pub pattern64-one-answer : CastOneAnswer (of_z w64)
-pattern64-one-answer x r s p q = p ∙ sym q
+pub pattern64-one-answer : OneAnswer pattern64.Post
+pattern64-one-answer κs a r r' s s' p q = p ∙ sym q

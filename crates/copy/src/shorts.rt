@@ -45,8 +45,8 @@ impl Paired for i16 {
     fn pair_at(order: Order, iq: bool, src: &[u8], place: usize) -> (i16, i16) {
         let two = two_at(order, iq, src, place);
         (
-            ((two % 65536) as u16).cast_signed(),
-            ((two / 65536) as u16).cast_signed(),
+            num::signed16((two % 65536) as u16),
+            num::signed16((two / 65536) as u16),
         )
     }
 

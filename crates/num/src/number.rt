@@ -39,7 +39,7 @@ pub trait Number<const N: usize>: Copy {
     }
 }
 
-// The impls below are alike: std gives `from_be_bytes`, `to_be` and `cast_signed` to each type alone, in no trait.
+// The impls below are alike: std gives `from_be_bytes` and `to_be` to each type alone, in no trait.
 impl Number<2> for u16 {
     ghost of_bits = { λ n. n };
 
@@ -123,11 +123,11 @@ impl Number<2> for i16 {
     fn of(order: Order, bytes: [u8; 2]) -> i16
         ensures { result ≡ signed w16 order bytes }
     {
-        u16::of(order, bytes).cast_signed()
+        crate::signed16(u16::of(order, bytes))
     }
 
     fn bytes(self, order: Order) -> [u8; 2] {
-        self.cast_unsigned().bytes(order)
+        crate::pattern16(self).bytes(order)
     }
 
     ghost sized = { Prim.search rules };
@@ -141,11 +141,11 @@ impl Number<4> for i32 {
     fn of(order: Order, bytes: [u8; 4]) -> i32
         ensures { result ≡ signed w32 order bytes }
     {
-        u32::of(order, bytes).cast_signed()
+        crate::signed32(u32::of(order, bytes))
     }
 
     fn bytes(self, order: Order) -> [u8; 4] {
-        self.cast_unsigned().bytes(order)
+        crate::pattern32(self).bytes(order)
     }
 
     ghost sized = { Prim.search rules };
@@ -159,11 +159,11 @@ impl Number<8> for i64 {
     fn of(order: Order, bytes: [u8; 8]) -> i64
         ensures { result ≡ signed w64 order bytes }
     {
-        u64::of(order, bytes).cast_signed()
+        crate::signed64(u64::of(order, bytes))
     }
 
     fn bytes(self, order: Order) -> [u8; 8] {
-        self.cast_unsigned().bytes(order)
+        crate::pattern64(self).bytes(order)
     }
 
     ghost sized = { Prim.search rules };

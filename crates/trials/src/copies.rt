@@ -44,7 +44,7 @@ pub(crate) fn widths(
         .iter()
         .zip(&patterns)
         .fold(answered, |sum, (number, pattern)| {
-            sum.with(u64::from(number.cast_unsigned()))
+            sum.with(u64::from(num::pattern16(*number)))
                 .with(u64::from(*pattern))
         })
 }
