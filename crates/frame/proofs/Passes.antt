@@ -45,6 +45,14 @@ passes-at o s p q h =
     (never-true (begun o (drop p s)) (λ t.
     h (rw add-zero at (begun-at o s p 0 (omega arith) t)) (begun-at o s p 1 (omega arith) t)))
 
+-- nor at a place where a byte is not the word's
+differs-at : (o : Order) (s : List ℕ) (p k : ℕ) → k < 4 → p + k < length s → (get_or s (p + k) 0 ≡ get_or (sync_bytes o) k 0 → ⊥) → stops (shows o (drop p s)) ≡ false
+differs-at o s p k h l d =
+    let n = sync-length o in
+    none-passes o (drop p s)
+    (never-true (starts (sync_bytes o) (drop p s)) (λ t. d (starts-at (sync_bytes o) s p k (omega arith) t)))
+    (never-true (begun o (drop p s)) (λ t. d (begun-at o s p k l t)))
+
 -- so it stops where it does from behind them, w being the sync word
 module _ (o : Order) (s : Bor (List ℕ)) (w : List ℕ) (e : w ≡ sync_bytes o) where
   abbrev front : Front
@@ -110,4 +118,7 @@ module _ (o : Order) (s : Bor (List ℕ)) (w : List ℕ) (e : w ≡ sync_bytes o
   pub search-bad : (a : At) (size : BadSize) → a ≡ shows o (drop q s.now) → a ≡ Bad size → q + 4 + gap o (drop (q + 4) s.now) ≡ p + gap o (drop p s.now)
   search-bad a size h k = bad-gap o s q size r.high (sym h ∙ k) ∙ passes-gap o s w e p q r
 
-pub ruleset search_read = (search-stop, search-pass, search-bad)
+  pub search-differ : (k : ℕ) → k < 4 → q + k < length s.now → (get_or s.now (q + k) 0 ≡ get_or w k 0 → ⊥) → q + 1 + gap o (drop (q + 1) s.now) ≡ p + gap o (drop p s.now)
+  search-differ k h l d = omega (arith, passes-gap o s w e p q r, gap-step o s.now q r.high (differs-at o s.now q k h l (rw e at d)))
+
+pub ruleset search_read = (search-stop, search-pass, search-bad, search-differ)

@@ -219,24 +219,26 @@ impl<'a> Front<'a> {
     }
 
     // The first place from `from` on that has the two bytes in front, or the last of all. It may be near: whole blocks
-    // are passed over where it is not.
+    // are passed over where it is not. Where it is, no group that has it is tested twice.
     fn pass(&self, from: usize) -> usize
         requires { from < length self.now.s.now }
         ensures { Passes self.now from result }
     {
         let end = self.s.len() - 1;
         let to = end.min(from + 16);
-        let mut p = self.groups::<16>(from, to);
-        if p == to {
-            p = self.groups::<64>(to, end);
+        let near = self.groups::<8>(from, to);
+        if near < to {
+            return self.groups::<1>(near, end);
         }
+        let p = self.groups::<64>(to, end);
         let p = self.groups::<8>(p, end);
         self.groups::<1>(p, end)
     }
 }
 
 // Looks for a chunk: the first place from `from` on where one is complete or unfinished. None where there is none, and
-// where `from` lies past the end.
+// where `from` lies past the end. The loop over places is left from inside the comparison of the word's four bytes, once
+// all of them stand there, or as many as the stream still has.
 #[tactic(auto, using(crate::proofs::Passes::search_read))]
 pub fn search(order: Order, s: &[u8], from: usize) -> Option<usize>
     ensures { result ≡ search_from order s.now from }
@@ -248,17 +250,27 @@ pub fn search(order: Order, s: &[u8], from: usize) -> Option<usize>
         second: word[1],
     };
     let mut place = from;
-    // What stands at a place says how far to go on, so no `for` has the places.
-    while place < s.len() {
-        place = front.pass(place);
-        match look(order, s, place) {
-            At::Complete { .. } | At::Unfinished => return Some(place),
-            At::NoSync => place += 1,
-            // No sync word begins within one.
-            At::Bad(_) => place += 4,
+    'places: loop {
+        if s.len() <= place {
+            break None;
         }
+        place = front.pass(place);
+        let mut k = 0;
+        place += 'bytes: loop {
+            if k == 4 || place + k == s.len() {
+                match look(order, s, place) {
+                    At::Complete { .. } | At::Unfinished => break 'places Some(place),
+                    At::NoSync => break 'bytes 1,
+                    // No sync word begins within one.
+                    At::Bad(_) => break 'bytes 4,
+                }
+            }
+            if s[place + k] != word[k] {
+                break 'bytes 1;
+            }
+            k += 1;
+        };
     }
-    None
 }
 
 // Finds the byte order of a stream: that of the first sync word in it, whichever of the two orders this has. An error,
