@@ -5,6 +5,16 @@ ghost use Rattle.lay.specs.Splice.{fits, overlaid};
 
 use num::{Number, Order};
 
+// The bytes of a number over all of out. A compiler makes one store of the loop.
+fn put<const N: usize>(bytes: [u8; N], out: &mut [u8])
+    requires { length out.old ≡ N }
+    ensures { out.new ≡ bytes.entry }
+{
+    for k in 0..N {
+        out[k] = bytes[k];
+    }
+}
+
 // The numbers over all of out. A compiler makes vectors of the loop. By index: of a slice that `chunks_exact_mut` went over
 // the check knows no values.
 #[tactic(auto, using(crate::proofs::Numbers::numbers_none, crate::proofs::Numbers::numbers_next))]
@@ -13,7 +23,7 @@ fn fill_run<const N: usize, T: Number<N>>(order: Order, xs: &[T], out: &mut [u8]
     ensures { out.new ≡ numbers_of order N T.bits xs.now }
 {
     for (j, x) in xs.iter().enumerate() {
-        out[j * N..j * N + N].copy_from_slice(&x.bytes(order));
+        put(x.bytes(order), &mut out[j * N..j * N + N]);
     }
 }
 
