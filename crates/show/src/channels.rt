@@ -41,8 +41,7 @@ fn is_float(shape: Shape) -> bool {
     }
 }
 
-// A line for each channel: 16-bit numbers in decimal, or patterns of floats. There is room for as many as a stream of
-// the most bytes can hold. The width is a flag: a chunk's kind tells it while the program runs, and here it chooses the
+// A line for each channel. The width is a flag: a chunk's kind tells it while the program runs, and here it chooses the
 // type, the call and the room together.
 fn lines(
     rt: &impl Print,
@@ -54,16 +53,39 @@ fn lines(
 ) -> io::Result<()> {
     for channel in 0..channels {
         if float {
-            let mut out = [0; 16384];
-            let copied = samples::patterns_of(order, s, stepped, channel, &mut out);
-            samples_line(rt, channel, copied, &out, hex_word)?;
+            patterns(rt, order, s, stepped, channel)?;
         } else {
-            let mut out = [0; 32768];
-            let copied = samples::shorts_of(order, s, stepped, channel, &mut out);
-            samples_line(rt, channel, copied, &out, short)?;
+            shorts(rt, order, s, stepped, channel)?;
         }
     }
     Ok(())
+}
+
+// 16-bit numbers, in decimal. There is room for as many as a stream of the most bytes can hold. Each width has a function
+// of its own, so that the rooms of both do not lie on the stack at once.
+fn shorts(
+    rt: &impl Print,
+    order: Order,
+    s: &[u8],
+    stepped: Stepped,
+    channel: usize,
+) -> io::Result<()> {
+    let mut out = [0; 32768];
+    let copied = samples::shorts_of(order, s, stepped, channel, &mut out);
+    samples_line(rt, channel, copied, &out, short)
+}
+
+// Patterns of floats, in hex digits.
+fn patterns(
+    rt: &impl Print,
+    order: Order,
+    s: &[u8],
+    stepped: Stepped,
+    channel: usize,
+) -> io::Result<()> {
+    let mut out = [0; 16384];
+    let copied = samples::patterns_of(order, s, stepped, channel, &mut out);
+    samples_line(rt, channel, copied, &out, hex_word)
 }
 
 // The line of a channel: its number, the count of its numbers, and these.

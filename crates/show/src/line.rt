@@ -28,10 +28,11 @@ impl Line {
         Line::empty().with(rt, label(which))
     }
 
-    // A word more. Where there is no room for it, what is gathered is written first.
+    // A word more. Where there may be no room for it, what is gathered is written first: where fewer bytes are left than
+    // the longest word has, however long this one is.
     pub(crate) fn with(mut self, rt: &impl Print, t: Text) -> io::Result<Line> {
         let word = &t.bytes[..t.len.min(t.bytes.len())];
-        if self.bytes.remaining_capacity() < word.len() {
+        if self.bytes.remaining_capacity() < t.bytes.len() {
             rt.write_all(&self.bytes)?;
             self.bytes.clear();
         }
