@@ -36,7 +36,7 @@ fn siqp(order: Order, body: &[u8], was: State) -> Taken
     ensures { IsEffect result (effect order Kind.SIQP body.now was) }
 {
     let read = body::siqp(order, body);
-    let value = value::held(read);
+    let value = value::held(read, value::NONE);
     let mut values = was.values;
     values.packing = value;
     set(value::judged(read), was, values)
@@ -46,7 +46,7 @@ fn sr(order: Order, body: &[u8], was: State) -> Taken
     ensures { IsEffect result (effect order Kind.SR body.now was) }
 {
     let read = body::sr(order, body);
-    let value = value::held(read);
+    let value = value::held(read, value::NONE);
     let mut values = was.values;
     values.rate = value;
     set(value::judged(read), was, values)
@@ -57,7 +57,7 @@ fn bw(order: Order, body: &[u8], was: State) -> Taken
     ensures { IsEffect result (effect order Kind.BW body.now was) }
 {
     let read = body::bw(order, body);
-    let bandwidth = value::held(read);
+    let bandwidth = value::held(read, value::NONE);
     let band = BandHeld {
         present: bandwidth.present,
         width: bandwidth.value,
@@ -82,7 +82,7 @@ fn gcbw(order: Order, body: &[u8], was: State) -> Taken
     ensures { IsEffect result (effect order Kind.GCBW body.now was) }
 {
     let read = body::bw(order, body);
-    let value = value::held(read);
+    let value = value::held(read, value::NONE);
     let mut values = was.values;
     values.group_band = value;
     set(value::judged(read), was, values)
@@ -91,8 +91,9 @@ fn gcbw(order: Order, body: &[u8], was: State) -> Taken
 fn cf(order: Order, body: &[u8], was: State) -> Taken
     ensures { IsEffect result (effect order Kind.CF body.now was) }
 {
+    let absent = value::NONE;
     let read = body::cf(order, body);
-    let frequency = value::held(read);
+    let frequency = value::held(read, absent);
     let mut values = was.values;
     values.centre = frequency;
     set(value::judged(read), was, values)

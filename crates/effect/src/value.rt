@@ -2,23 +2,30 @@
 ghost use Rattle.std.specs.Prelude.{◌≡◌};
 ghost use Rattle.body.specs.Fault.{read_said};
 ghost use Rattle.body.specs.Check.{or_else};
-ghost use Rattle.body.specs.Values.{no_number, no_band, no_level, number, banded, amount, levelled};
+ghost use Rattle.body.specs.Values.{no_band, no_level, number, banded, amount, levelled};
 ghost use Rattle.effect.specs.Says.{verdict_said, judged};
 
 use crate::Verdict;
 use body::{Band, BandHeld, Fault, Held, Level, LevelHeld};
 
+// A number that is absent.
+pub(crate) const NONE: Held = Held {
+    present: false,
+    value: 0,
+};
+
 // What was read as the state holds it, or its absence where the body is malformed. Each of the three holds another type
 // by other fields, so that one function for them would be handed all that they say.
-pub(crate) fn held(read: Result<i64, Fault>) -> Held
-    ensures { result ≡ or_else no_number number (read_said read) }
+// The absence of a number is handed in, so that what CF__ leaves of an old frequency stands in a line of its own.
+pub(crate) fn held(read: Result<i64, Fault>, absent: Held) -> Held
+    ensures { result ≡ or_else absent number (read_said read) }
 {
     match read {
         Ok(value) => Held {
             present: true,
             value,
         },
-        Err(_) => body::no_number(),
+        Err(_) => absent,
     }
 }
 
