@@ -15,7 +15,7 @@ use crate::levels::is_finite_pattern;
 use num::{Number, Order};
 
 // The bytes of a GIQP before its offsets: n, packing and increment.
-const PACKING_HEAD: usize = 12;
+pub const PACKING_HEAD: usize = 12;
 
 // The three types below keep their open fields, n of 0 for an absent value and the unused places: a state is a plain
 // value, which a caller may give as no chunks leave it, and number 3 refuses it (crates/trials/src/states.rt).
