@@ -1,8 +1,9 @@
 -- Laws of places that a search passes over by two bytes alone.
-use Prim.Native.Nat.{ℕ, zero, suc, ◌+◌, ◌-◌, ◌<◌}
+use Prim.Native.Nat.{ℕ, zero, suc, ◌+◌, ◌-◌, ◌≤◌, ◌<◌}
 use mathlib.Core.Path.{◌≡◌, refl, ap, sym, ◌∙◌}
 use mathlib.Core.List.{List}
 use mathlib.Core.Bool.{true, false}
+use borrow.Author.Tests.{le-ltb}
 use native.Mathlib.Nat.{add-zero}
 use native.Mathlib.Omega.{arith}
 use lib.ListN.{length, get_or, drop, length-drop, get_or-append}
@@ -11,7 +12,7 @@ use Rattle.std.proofs.Common.{Bor}
 use Rattle.num.specs.declared.Order.{Order}
 use Rattle.num.specs.declared.Order.TheVariants.{Big, Little}
 use Rattle.frame.specs.declared.BadSize.{BadSize}
-use Rattle.std.specs.Prelude.{Some}
+use Rattle.std.specs.Prelude.{Some, None}
 use mathlib.Core.Logic.{◌⊎◌}
 use Rattle.frame.specs.declared.At.{At}
 use Rattle.frame.specs.declared.At.TheVariants.{NoSync, Bad, Unfinished, Complete}
@@ -44,14 +45,6 @@ passes-at o s p q h =
     h (rw add-zero at (starts-at (sync_bytes o) s p 0 (omega arith) t)) (starts-at (sync_bytes o) s p 1 (omega arith) t)))
     (never-true (begun o (drop p s)) (λ t.
     h (rw add-zero at (begun-at o s p 0 (omega arith) t)) (begun-at o s p 1 (omega arith) t)))
-
--- nor at a place where a byte is not the word's
-differs-at : (o : Order) (s : List ℕ) (p k : ℕ) → k < 4 → p + k < length s → (get_or s (p + k) 0 ≡ get_or (sync_bytes o) k 0 → ⊥) → stops (shows o (drop p s)) ≡ false
-differs-at o s p k h l d =
-    let n = sync-length o in
-    none-passes o (drop p s)
-    (never-true (starts (sync_bytes o) (drop p s)) (λ t. d (starts-at (sync_bytes o) s p k (omega arith) t)))
-    (never-true (begun o (drop p s)) (λ t. d (begun-at o s p k l t)))
 
 -- so it stops where it does from behind them, w being the sync word
 module _ (o : Order) (s : Bor (List ℕ)) (w : List ℕ) (e : w ≡ sync_bytes o) where
@@ -118,7 +111,12 @@ module _ (o : Order) (s : Bor (List ℕ)) (w : List ℕ) (e : w ≡ sync_bytes o
   pub search-bad : (a : At) (size : BadSize) → a ≡ shows o (drop q s.now) → a ≡ Bad size → q + 4 + gap o (drop (q + 4) s.now) ≡ p + gap o (drop p s.now)
   search-bad a size h k = bad-gap o s q size r.high (sym h ∙ k) ∙ passes-gap o s w e p q r
 
-  pub search-differ : (k : ℕ) → k < 4 → q + k < length s.now → (get_or s.now (q + k) 0 ≡ get_or w k 0 → ⊥) → q + 1 + gap o (drop (q + 1) s.now) ≡ p + gap o (drop p s.now)
-  search-differ k h l d = omega (arith, passes-gap o s w e p q r, gap-step o s.now q r.high (differs-at o s.now q k h l (rw e at d)))
+-- past a place that is no stop
+pub none-gap : (o : Order) (s : List ℕ) (p : ℕ) (a : At) → p < length s → a ≡ shows o (drop p s) → a ≡ NoSync → p + 1 + gap o (drop (p + 1) s) ≡ p + gap o (drop p s)
+none-gap o s p a h e k = omega (arith, gap-step o s p h (rw e at (ap stops k)))
 
-pub ruleset search_read = (search-stop, search-pass, search-bad, search-differ)
+-- none is found where the first stop is not before the end
+pub none-found : (o : Order) (s : List ℕ) (from : ℕ) → length s ≤ from + gap o (drop from s) → None ≡ search_from o s from
+none-found o s from h = rw (le-ltb (from + gap o (drop from s)) (length s) h)
+
+pub ruleset search_read = (search-stop, search-pass, search-bad)

@@ -226,19 +226,29 @@ impl<'a> Front<'a> {
     {
         let end = self.s.len() - 1;
         let to = end.min(from + 16);
-        let near = self.groups::<8>(from, to);
-        if near < to {
-            return self.groups::<1>(near, end);
+        let p = self.groups::<8>(from, to);
+        if p < to {
+            return self.groups::<1>(p, end);
         }
         let p = self.groups::<64>(to, end);
         let p = self.groups::<8>(p, end);
         self.groups::<1>(p, end)
     }
+
+    // The same behind such a place, where the next one may stand at once.
+    fn near(&self, from: usize) -> usize
+        requires { from < length self.now.s.now }
+        ensures { Passes self.now from result }
+    {
+        let next = (self.s.len() - 1).min(from + 2);
+        let p = self.groups::<1>(from, next);
+        if p < next { p } else { self.pass(p) }
+    }
 }
 
 // Looks for a chunk: the first place from `from` on where one is complete or unfinished. None where there is none, and
-// where `from` lies past the end. The loop over places is left from inside the comparison of the word's four bytes, once
-// all of them stand there, or as many as the stream still has.
+// where `from` lies past the end. The loop over places is left from inside the comparison of four bytes, which `look`
+// makes of them as one word.
 #[tactic(auto, using(crate::proofs::Passes::search_read))]
 pub fn search(order: Order, s: &[u8], from: usize) -> Option<usize>
     ensures { result ≡ search_from order s.now from }
@@ -249,26 +259,17 @@ pub fn search(order: Order, s: &[u8], from: usize) -> Option<usize>
         first: word[0],
         second: word[1],
     };
-    let mut place = from;
+    if s.len() <= from {
+        return None;
+    }
+    let mut place = front.pass(from);
     'places: loop {
-        if s.len() <= place {
-            break None;
-        }
-        place = front.pass(place);
-        let mut k = 0;
-        place += 'bytes: loop {
-            if k == 4 || place + k == s.len() {
-                match look(order, s, place) {
-                    At::Complete { .. } | At::Unfinished => break 'places Some(place),
-                    At::NoSync => break 'bytes 1,
-                    // No sync word begins within one.
-                    At::Bad(_) => break 'bytes 4,
-                }
-            }
-            if s[place + k] != word[k] {
-                break 'bytes 1;
-            }
-            k += 1;
+        place = match look(order, s, place) {
+            At::Complete { .. } | At::Unfinished => break 'places Some(place),
+            At::NoSync if place + 1 < s.len() => front.near(place + 1),
+            // No sync word begins within one.
+            At::Bad(_) if place + 4 < s.len() => front.pass(place + 4),
+            At::NoSync | At::Bad(_) => break 'places None,
         };
     }
 }
