@@ -1,9 +1,8 @@
 -- Laws of places that a search passes over by two bytes alone.
-use Prim.Native.Nat.{ℕ, zero, suc, ◌+◌, ◌-◌, ◌≤◌, ◌<◌}
+use Prim.Native.Nat.{ℕ, zero, suc, ◌+◌, ◌-◌, ◌<◌}
 use mathlib.Core.Path.{◌≡◌, refl, ap, sym, ◌∙◌}
 use mathlib.Core.List.{List}
 use mathlib.Core.Bool.{true, false}
-use borrow.Author.Tests.{le-ltb}
 use native.Mathlib.Nat.{add-zero}
 use native.Mathlib.Omega.{arith}
 use lib.ListN.{length, get_or, drop, length-drop, get_or-append}
@@ -12,7 +11,7 @@ use Rattle.std.proofs.Common.{Bor}
 use Rattle.num.specs.declared.Order.{Order}
 use Rattle.num.specs.declared.Order.TheVariants.{Big, Little}
 use Rattle.frame.specs.declared.BadSize.{BadSize}
-use Rattle.std.specs.Prelude.{Some, None}
+use Rattle.std.specs.Prelude.{Some}
 use mathlib.Core.Logic.{◌⊎◌}
 use Rattle.frame.specs.declared.At.{At}
 use Rattle.frame.specs.declared.At.TheVariants.{NoSync, Bad, Unfinished, Complete}
@@ -110,13 +109,5 @@ module _ (o : Order) (s : Bor (List ℕ)) (w : List ℕ) (e : w ≡ sync_bytes o
 
   pub search-bad : (a : At) (size : BadSize) → a ≡ shows o (drop q s.now) → a ≡ Bad size → q + 4 + gap o (drop (q + 4) s.now) ≡ p + gap o (drop p s.now)
   search-bad a size h k = bad-gap o s q size r.high (sym h ∙ k) ∙ passes-gap o s w e p q r
-
--- past a place that is no stop
-pub none-gap : (o : Order) (s : List ℕ) (p : ℕ) (a : At) → p < length s → a ≡ shows o (drop p s) → a ≡ NoSync → p + 1 + gap o (drop (p + 1) s) ≡ p + gap o (drop p s)
-none-gap o s p a h e k = omega (arith, gap-step o s p h (rw e at (ap stops k)))
-
--- none is found where the first stop is not before the end
-pub none-found : (o : Order) (s : List ℕ) (from : ℕ) → length s ≤ from + gap o (drop from s) → None ≡ search_from o s from
-none-found o s from h = rw (le-ltb (from + gap o (drop from s)) (length s) h)
 
 pub ruleset search_read = (search-stop, search-pass, search-bad)

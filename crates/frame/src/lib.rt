@@ -219,30 +219,19 @@ impl<'a> Front<'a> {
     }
 
     // The first place from `from` on that has the two bytes in front, or the last of all. It may be near: whole blocks
-    // are passed over where it is not. Where it is, no group that has it is tested twice.
+    // are passed over where it is not.
     fn pass(&self, from: usize) -> usize
         requires { from < length self.now.s.now }
         ensures { Passes self.now from result }
     {
         let end = self.s.len() - 1;
         let to = end.min(from + 16);
-        let p = self.groups::<8>(from, to);
-        if p < to {
-            return self.groups::<1>(p, end);
+        let mut p = self.groups::<16>(from, to);
+        if p == to {
+            p = self.groups::<64>(to, end);
         }
-        let p = self.groups::<64>(to, end);
         let p = self.groups::<8>(p, end);
         self.groups::<1>(p, end)
-    }
-
-    // The same behind such a place, where the next one may stand at once.
-    fn near(&self, from: usize) -> usize
-        requires { from < length self.now.s.now }
-        ensures { Passes self.now from result }
-    {
-        let next = (self.s.len() - 1).min(from + 2);
-        let p = self.groups::<1>(from, next);
-        if p < next { p } else { self.pass(p) }
     }
 }
 
@@ -259,18 +248,18 @@ pub fn search(order: Order, s: &[u8], from: usize) -> Option<usize>
         first: word[0],
         second: word[1],
     };
-    if s.len() <= from {
-        return None;
-    }
-    let mut place = front.pass(from);
+    let mut place = from;
     'places: loop {
-        place = match look(order, s, place) {
+        if s.len() <= place {
+            break None;
+        }
+        place = front.pass(place);
+        match look(order, s, place) {
             At::Complete { .. } | At::Unfinished => break 'places Some(place),
-            At::NoSync if place + 1 < s.len() => front.near(place + 1),
+            At::NoSync => place += 1,
             // No sync word begins within one.
-            At::Bad(_) if place + 4 < s.len() => front.pass(place + 4),
-            At::NoSync | At::Bad(_) => break 'places None,
-        };
+            At::Bad(_) => place += 4,
+        }
     }
 }
 
